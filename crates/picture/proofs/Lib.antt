@@ -1,0 +1,5 @@
+pub mod Bits
+pub mod Masks
+pub mod Table
+pub mod Dots
+pub mod Screens

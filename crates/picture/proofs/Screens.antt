@@ -1,0 +1,79 @@
+-- The laws of positions: every dot that a position has lies in the picture, and no two positions of the window share one.
+-- Once over width and height.
+-- Assumes nothing.
+use mathlib.Core.Path.{_≡_, refl, sym, ap, _∙_}
+use mathlib.Core.Logic.{⊎-elim}
+use mathlib.Core.Bool.{Bool, true, false, or-false, false≢true}
+use mathlib.Core.List.{List, [], _∷_}
+use Prim.Native.Nat.{ℕ, _+_, _-_, _*_, _/_, _%_, _^_, _<_, _≤_}
+use native.Mathlib.Nat.{mul-left-comm, mul-le-mul-right, suc-mul, mul-comm, mul-add-div-right, div-eq-of-lt, add-zero, mod-lt}
+use native.Mathlib.Omega.{arith}
+use lib.Bits.{bitAnd, and-mask}
+use lib.Dec.{eqb, ltb}
+use lib.Pow.{pow-pos}
+use borrow.Author.Tests.{eqb-true, ltb-true, ltb-false, lt-ltb, le-ltb}
+use Rattle.picture.specs.Dot.{has}
+use Rattle.picture.specs.Screen.{Screen, Power, place, folded, dotNumber}
+use Rattle.picture.proofs.Dots.{split}
+
+one-dot : (d e : ℕ) → has d (e ∷ []) ≡ true → d ≡ e
+one-dot d e h = eqb-true d e (sym (or-false (eqb d e)) ∙ h)
+
+row-of : (w x y : ℕ) → x < w → 0 < w → (y * w + x) / w ≡ y
+row-of w x y h pos = mul-add-div-right pos y x ∙ ap (λ (n : ℕ). y + n) (div-eq-of-lt h) ∙ add-zero y
+
+-- the document's own rule: dot (x, y) is bit x % 8 of byte y * (w / 8) + x / 8
+pub dot-byte : (k x y : ℕ) → (y * (8 * k) + x) / 8 ≡ y * k + x / 8
+dot-byte k x y = omega (arith, mul-left-comm y 8 k)
+
+pub dot-bit : (k x y : ℕ) → (y * (8 * k) + x) % 8 ≡ x % 8
+dot-bit k x y = omega (arith, mul-left-comm y 8 k)
+
+-- a position in the window has a dot in the picture
+pub in-window : (w h n x y : ℕ) → Screen w h n → x < w → y < h → y * w + x < 8 * n
+in-window w h n x y s hx hy = omega (arith, mul-le-mul-right w hy, suc-mul y w, mul-comm w h, s .area)
+
+-- and no other position of the window has it
+pub same-place : (w x y u v : ℕ) → x < w → u < w → y * w + x ≡ v * w + u → (x ≡ u) × (y ≡ v)
+same-place w x y u v hx hu e =
+    let pos : 0 < w = omega arith in
+    let row : y ≡ v = sym (row-of w x y hx pos) ∙ ap (λ (n : ℕ). n / w) e ∙ row-of w u v hu pos in
+    (omega (arith, ap (λ (n : ℕ). n * w) row), row)
+
+-- a power of two is above 0, and a mask of its bits is the remainder
+pub power-some : {n : ℕ} → Power n → 0 < n
+power-some p = rw (p .1) (pow-pos (p .0))
+
+pub fold-mask : (n p : ℕ) → Power n → bitAnd p (n - 1) ≡ folded true n p
+fold-mask n p h = rw (h .1) (and-mask p (h .0))
+
+-- on a cyclic screen every position is inside
+pub folded-lt : (n p : ℕ) → 0 < n → folded true n p < n
+folded-lt n p h = mod-lt p h
+
+module _ (cyclic : Bool) (w h x y : ℕ) where
+  pub place-in : folded cyclic w x < w → folded cyclic h y < h → place cyclic w h x y ≡ dotNumber w (folded cyclic w x) (folded cyclic h y) ∷ []
+  unfolding place
+  place-in hx hy = rw (lt-ltb (folded cyclic w x) w hx, lt-ltb (folded cyclic h y) h hy)
+
+  pub place-beside : w ≤ folded cyclic w x → place cyclic w h x y ≡ []
+  unfolding place
+  place-beside hx = rw (le-ltb (folded cyclic w x) w hx)
+
+  pub place-above : h ≤ folded cyclic h y → place cyclic w h x y ≡ []
+  unfolding place
+  place-above hy = rw (le-ltb (folded cyclic h y) h hy) (⊎-elim (λ t. rw t) (λ t. rw t) (split (ltb (folded cyclic w x) w)))
+
+  -- every dot that a position has is in the picture
+  pub place-fits : (n d : ℕ) → Screen w h n → has d (place cyclic w h x y) ≡ true → d < 8 * n
+  place-fits n d s e =
+      let col = folded cyclic w x in
+      let row = folded cyclic h y in
+      ⊎-elim
+      (λ t. ⊎-elim
+      (λ u. rw (one-dot d (row * w + col) (rw (place-in (ltb-true col w t) (ltb-true row h u)) at e))
+      (in-window w h n col row s (ltb-true col w t) (ltb-true row h u)))
+      (λ u. absurd (false≢true (rw (place-above (ltb-false row h u)) at e)))
+      (split (ltb row h)))
+      (λ t. absurd (false≢true (rw (place-beside (ltb-false col w t)) at e)))
+      (split (ltb col w))
