@@ -2,16 +2,17 @@
 -- Assumes nothing.
 use mathlib.Core.Path.{_≡_, refl, sym, ap, _∙_}
 use mathlib.Core.Logic.{⊎-elim, _⊎_, inl, inr}
-use mathlib.Core.Bool.{Bool, true, false, cond, _||_, or-assoc}
+use mathlib.Core.Bool.{Bool, true, false, cond, _||_, or-assoc, Bool·beq}
 use mathlib.Core.List.{List, [], _∷_, _++_}
 use Prim.Native.Nat.{ℕ, zero, suc, _+_, _*_, _/_, _%_, _<_, _≤_}
 use native.Mathlib.Omega.{arith}
 use lib.Dec.{eqb, ltb}
-use lib.ListN.{length, getD, set, length-set, length-replicate, getD-replicate}
+use lib.ListN.{length, getD, set, replicate, length-set, length-replicate, getD-replicate}
 use lib.Seq.{getD-set-same, getD-set-other, set-out, ext-getD}
 use borrow.Author.Tests.{eqb-true, eqb-false, ltb-true, ltb-false}
 use Rattle.picture.specs.Bit.{bitAt, withBit}
 use Rattle.picture.specs.Dot.{dotAt, setDot, paint, has, whole, solid, Bytes}
+use Rattle.picture.proofs.Table.{at, beq-eq}
 use Rattle.picture.proofs.Bits.{bit-same, bit-other, bit-fits, bit-ext}
 
 -- one dot: the length stays, the dot is as written, every other dot and the bytes stay
@@ -129,16 +130,9 @@ pub was-dark : (ds pic : List ℕ) → paint false ds (paint true ds pic) ≡ pi
     → (d : ℕ) → d < 8 * length pic → has d ds ≡ true → dotAt pic d ≡ false
 was-dark ds pic e d l t = ap (λ (p : List ℕ). dotAt p d) (sym e) ∙ repaint-dot true false ds pic d l ∙ rw t
 
-all-ones : (k : ℕ) → k < 8 → bitAt k 255 ≡ true
-all-ones zero h = refl
-all-ones (suc zero) h = refl
-all-ones (suc (suc zero)) h = refl
-all-ones (suc (suc (suc zero))) h = refl
-all-ones (suc (suc (suc (suc zero)))) h = refl
-all-ones (suc (suc (suc (suc (suc zero))))) h = refl
-all-ones (suc (suc (suc (suc (suc (suc zero)))))) h = refl
-all-ones (suc (suc (suc (suc (suc (suc (suc zero))))))) h = refl
-all-ones (suc (suc (suc (suc (suc (suc (suc (suc k)))))))) h = absurd (omega arith)
+-- each of the eight bits of 255 is 1, and every bit of 0 is 0
+pub all-ones : (k : ℕ) → k < 8 → bitAt k 255 ≡ true
+all-ones k h = beq-eq (bitAt k 255) true (at {A = ℕ} (λ k _. Bool·beq (bitAt k 255) true) 0 (replicate 8 0) tt k h)
 
 no-ones : (k : ℕ) → bitAt k 0 ≡ false
 no-ones zero = refl

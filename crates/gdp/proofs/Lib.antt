@@ -1,0 +1,5 @@
+pub mod Readings
+pub mod Figures
+pub mod Split
+pub mod Memory
+pub mod Settled

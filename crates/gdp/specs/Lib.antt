@@ -1,0 +1,13 @@
+pub mod State
+pub mod Status
+pub mod Registers
+pub mod Figure
+pub mod Cycles
+pub mod Commands
+pub mod Blanking
+pub mod Refusals
+pub mod Calls
+pub mod Play
+pub mod Readings
+pub mod MoreReadings
+pub mod Computed

@@ -1,0 +1,79 @@
+-- The refusals of every call, in the order of document 01's table.
+-- Assumes nothing.
+use Prim.Native.Nat.{ℕ}
+use mathlib.Core.Bool.{Bool, true, false, _||_, _&&_, not}
+use mathlib.Core.List.{List}
+use lib.Dec.{eqb, ltb, leb}
+use lib.ListN.{length}
+use Rattle.picture.specs.Bit.{bitAt}
+use Rattle.parts.specs.declared.sequence.Work.{Work}
+use Rattle.parts.specs.declared.sequence.Work.the-variants.{Idle, Steps, Clear}
+use Rattle.parts.specs.Format.{bytes}
+use Rattle.parts.specs.Command.{kind, lettering}
+use Rattle.parts.specs.Sequence.{ready, penOpen}
+use Rattle.parts.specs.Refusal.{lowest}
+use Rattle.gdp.specs.declared.state.Regs.{Regs}
+use Rattle.gdp.specs.declared.state.Gdp.{Gdp}
+use Rattle.gdp.specs.Figure.{cycles, tilted}
+
+-- 1: X or Y above 4,095, CTRL1 above 127, CTRL2 above 15, bit 1 of XLP high
+unfoldable pub badRegs : Regs → Bool
+badRegs r = ltb 4095 (r .x) || ltb 4095 (r .y) || ltb 127 (r .ctrl1) || ltb 15 (r .ctrl2) || bitAt 1 (r .xlp)
+
+-- a running command that takes no time: its count is 0, so no progress is below it; a progress not below the count;
+-- a running character with tilt high; VB high inside an open frame of a clear
+unfoldable pub badWork : Regs → Bool → Work → Bool
+badWork r vb Idle = false
+badWork r vb (Steps c p) = leb (cycles r c) p || (lettering (kind c) && tilted r)
+badWork r vb (Clear f o) = vb && o
+
+-- or VB high inside an open frame of the pen
+unfoldable pub bad : Gdp → Bool
+bad s = badRegs (s .regs) || badWork (s .regs) (s .vb) (s .work) || (s .vb && penOpen (s .pen))
+
+-- 2: the lent picture is not of the format's length
+unfoldable pub wrongPicture : Gdp → List ℕ → Bool
+wrongPicture s picture = not (eqb (length picture) (bytes (s .format)))
+
+-- 3: the character table is not 480 bytes
+unfoldable pub wrongTable : List ℕ → Bool
+wrongTable table = not (eqb (length table) 480)
+
+-- 4: address 4, 6, E or F, or above 15
+unfoldable pub noAddress : ℕ → Bool
+noAddress a = eqb a 0x4 || eqb a 0x6 || leb 0xE a
+
+-- 5: a write to C or D
+unfoldable pub penAddress : ℕ → Bool
+penAddress a = eqb a 0xC || eqb a 0xD
+
+-- 6: a write to any other address while a command runs
+unfoldable pub busy : Gdp → Bool
+busy s = not (ready (s .work))
+
+-- 7: a character command while CTRL2 bit 2 is high
+unfoldable pub tiltedCharacter : Gdp → ℕ → ℕ → Bool
+tiltedCharacter s a v = eqb a 0x0 && lettering (kind v) && tilted (s .regs)
+
+-- 8: h above 63 or v above 255
+unfoldable pub offScreen : ℕ → ℕ → Bool
+offScreen h v = ltb 63 h || ltb 255 v
+
+-- the numbers of the calls
+unfoldable pub writeNumber : Gdp → ℕ → ℕ → ℕ
+writeNumber s a v = lowest (bad s) false false (noAddress a) (penAddress a) (busy s) (tiltedCharacter s a v) false
+
+unfoldable pub readNumber : Gdp → ℕ → ℕ
+readNumber s a = lowest (bad s) false false (noAddress a) false false false false
+
+unfoldable pub grantNumber : Gdp → List ℕ → List ℕ → ℕ
+grantNumber s picture table = lowest (bad s) (wrongPicture s picture) (wrongTable table) false false false false false
+
+unfoldable pub vbNumber : Gdp → List ℕ → ℕ
+vbNumber s picture = lowest (bad s) (wrongPicture s picture) false false false false false false
+
+unfoldable pub edgeNumber : Gdp → ℕ → ℕ → ℕ
+edgeNumber s h v = lowest (bad s) false false false false false false (offScreen h v)
+
+unfoldable pub addressNumber : Gdp → ℕ
+addressNumber s = lowest (bad s) false false false false false false false

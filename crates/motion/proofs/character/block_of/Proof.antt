@@ -1,0 +1,13 @@
+-- `motion::character::block_of` meets its contract.
+-- Assumes nothing.
+use Rattle.motion.specs.Character.{blockOf, scaleP, scaleQ}
+use borrow.Author.Needs.{needs}
+use Rattle.motion.proofs.character.block_of.Statement.{statement}
+use Rattle.motion.proofs.character.block_of.Tie as tie
+
+returns : tie.Need-returns
+unfolding blockOf scaleP scaleQ
+returns c = (rw (c .before .scaled .ensures .0, c .scaled2 .ensures .0), search needs)
+
+pub block-of-spec : {M : Type 1} → statement M
+block-of-spec = tie.close (tie.spec (λ c κs. search needs) (λ c κs. search needs) (λ c. search needs) (λ c. search needs) returns)

@@ -1,0 +1,13 @@
+-- `motion::character::character_of` meets its contract.
+-- Assumes nothing.
+use Rattle.motion.specs.Character.{characterOf, scaleP, scaleQ}
+use borrow.Author.Needs.{needs}
+use Rattle.motion.proofs.character.character_of.Statement.{statement}
+use Rattle.motion.proofs.character.character_of.Tie as tie
+
+returns : tie.Need-returns
+unfolding characterOf scaleP scaleQ
+returns c = (rw (c .before .scaled .ensures .0, c .scaled2 .ensures .0), search needs)
+
+pub character-of-spec : {M : Type 1} → statement M
+character-of-spec = tie.close (tie.spec (λ c κs. search needs) (λ c κs. search needs) (λ c. search needs) (λ c. search needs) returns)

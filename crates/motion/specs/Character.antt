@@ -1,0 +1,81 @@
+-- How a character steps. i counts its cycles from 0: column u of dots, and within it row v.
+-- Assumes nothing.
+use mathlib.Core.Path.{_≡_}
+use Prim.Native.Nat.{ℕ, _*_, _/_, _%_, _≤_, _<_}
+use mathlib.Core.Bool.{Bool, true, false, cond}
+use lib.Dec.{eqb}
+use Rattle.motion.specs.declared.character.Body.{Body}
+use Rattle.motion.specs.declared.character.Cell.{Cell}
+use Rattle.motion.specs.Position.{ahead, signed}
+
+-- CSIZE gives P (upper) and Q (lower), 0 meaning 16
+unfoldable pub scale : ℕ → ℕ
+scale n = cond (eqb n 0) 16 n
+
+unfoldable pub scaleP : ℕ → ℕ
+scaleP csize = scale (csize / 16)
+
+unfoldable pub scaleQ : ℕ → ℕ
+scaleQ csize = scale (csize % 16)
+
+-- a character is 6P by 8Q dots, a block 4P by 4Q
+unfoldable pub characterOf : ℕ → Body
+characterOf csize =
+    record { p = scaleP csize; q = scaleQ csize; columns = 6 * scaleP csize; rows = 8 * scaleQ csize }
+
+unfoldable pub blockOf : ℕ → Body
+blockOf csize =
+    record { p = scaleP csize; q = scaleQ csize; columns = 4 * scaleP csize; rows = 4 * scaleQ csize }
+
+-- one cycle for each u below the columns and, within it, each v below the rows
+unfoldable pub bodyCycles : Body → ℕ
+bodyCycles b = b .columns * b .rows
+
+unfoldable pub uOf : Body → ℕ → ℕ
+uOf b i = i / b .rows
+
+unfoldable pub vOf : Body → ℕ → ℕ
+vOf b i = i % b .rows
+
+-- the glyph's column u / P and row v / Q
+unfoldable pub columnOf : Body → ℕ → ℕ
+columnOf b i = uOf b i / b .p
+
+unfoldable pub rowOf : Body → ℕ → ℕ
+rowOf b i = vOf b i / b .q
+
+-- from the start to the place of cycle i, as what is added modulo 4,096: (u, v); turned by CTRL2 bit 3, (−v, u)
+unfoldable pub bodyX : Bool → Body → ℕ → ℕ
+bodyX turned b i = cond turned (signed true (vOf b i)) (uOf b i)
+
+unfoldable pub bodyY : Bool → Body → ℕ → ℕ
+bodyY turned b i = cond turned (uOf b i) (vOf b i)
+
+-- at the end X has grown by 6P (4P) and Y is restored; turned, Y grows and X is restored
+unfoldable pub bodyEndX : Bool → Body → ℕ
+bodyEndX turned b = cond turned 0 (b .columns)
+
+unfoldable pub bodyEndY : Bool → Body → ℕ
+bodyEndY turned b = cond turned (b .columns) 0
+
+-- sizes that CSIZE can give
+pub record Sized (b : Body) : Type 0 where
+  pub p0 : 0 < b .p
+  pub p16 : b .p ≤ 16
+  pub q0 : 0 < b .q
+  pub q16 : b .q ≤ 16
+  pub rows0 : 0 < b .rows
+  pub rows128 : b .rows ≤ 128
+
+-- the counters of a cell are those of its cycle
+pub record Counts (b : Body) (c : Cell) : Type 0 where
+  pub v : c .v ≡ vOf b (c .i)
+  pub row : c .row ≡ rowOf b (c .i)
+  pub rowdot : c .rowdot ≡ vOf b (c .i) % b .q
+  pub column : c .column ≡ columnOf b (c .i)
+  pub columndot : c .columndot ≡ uOf b (c .i) % b .p
+
+-- c stands on the place of its cycle, of a character that starts at (x₀, y₀)
+pub record OnPlace (turned : Bool) (b : Body) (x₀ y₀ : ℕ) (c : Cell) : Type 0 where
+  pub x : c .x ≡ ahead x₀ (bodyX turned b (c .i))
+  pub y : c .y ≡ ahead y₀ (bodyY turned b (c .i))

@@ -1,0 +1,5 @@
+pub mod Position
+pub mod LineType
+pub mod Vector
+pub mod Character
+pub mod Glyph
