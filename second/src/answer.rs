@@ -1,0 +1,33 @@
+//! What a call hands back.
+
+use crate::refusal::ACCEPTED;
+use crate::state::State;
+
+#[derive(Clone, Copy, PartialEq, Eq, Debug)]
+pub struct Answer {
+    /// 0 when accepted, else the refusal number.
+    pub number: u8,
+    pub value: u16,
+    pub state: State,
+}
+
+#[derive(Clone, Copy, PartialEq, Eq, Debug)]
+pub struct AddressAnswer {
+    pub number: u8,
+    /// DAD0 to DAD6 while CK is low.
+    pub ck_low: u8,
+    /// DAD0 to DAD6 while CK is high.
+    pub ck_high: u8,
+    pub msl: u8,
+}
+
+impl Answer {
+    pub fn accepted(value: u16, state: State) -> Answer {
+        Answer { number: ACCEPTED, value, state }
+    }
+
+    /// A refusal has value 0 and leaves the state as it was handed in.
+    pub fn refused(number: u8, state: &State) -> Answer {
+        Answer { number, value: 0, state: *state }
+    }
+}

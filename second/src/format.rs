@@ -1,0 +1,31 @@
+//! The three formats: how wide and high the window is.
+
+#[derive(Clone, Copy, PartialEq, Eq, Debug)]
+pub enum Format {
+    Ef9366,
+    /// EF9365 with FMAT high.
+    Ef9365High,
+    /// EF9365 with FMAT low.
+    Ef9365Low,
+}
+
+impl Format {
+    pub fn width(self) -> u16 {
+        match self {
+            Format::Ef9366 | Format::Ef9365High => 512,
+            Format::Ef9365Low => 256,
+        }
+    }
+
+    pub fn height(self) -> u16 {
+        match self {
+            Format::Ef9365High => 512,
+            Format::Ef9366 | Format::Ef9365Low => 256,
+        }
+    }
+
+    /// Eight dots share a byte of the picture.
+    pub fn bytes(self) -> usize {
+        usize::from(self.width() / 8) * usize::from(self.height())
+    }
+}
