@@ -6,18 +6,21 @@ use Prim.Native.Nat.{ℕ}
 use Rattle.parts.specs.declared.command.Kind.{Kind}
 use Rattle.parts.specs.declared.command.Kind.the-variants.{NoCycle, OneCycle, Vector, Character, Block}
 use Rattle.gdp.specs.declared.state.Regs.{Regs}
-use Rattle.gdp.specs.State.{withPlace}
+use Rattle.gdp.specs.State.{regs, withPlace}
 use Rattle.gdp.specs.Figure.{line, character, block, turned, cyclesOf, wayX, wayY, endX, endY, writes}
 
-module _ (x y : ℕ) (r : Regs) (c : ℕ) where
-  pub cycles-placed : (k : Kind) → cyclesOf (withPlace x y r) c k ≡ cyclesOf r c k
-  unfolding cyclesOf line character block
-  cycles-placed Vector = refl
-  cycles-placed Character = refl
-  cycles-placed Block = refl
-  cycles-placed OneCycle = refl
-  cycles-placed NoCycle = refl
+-- the cycles of a command depend neither on X and Y nor on XLP and YLP
+pub cycles-kept : (r : Regs) (x y xl yl c : ℕ) (k : Kind)
+    → cyclesOf (regs (r .ctrl1) (r .ctrl2) (r .csize) (r .deltax) (r .deltay) x y xl yl) c k ≡ cyclesOf r c k
+unfolding cyclesOf line character block
+cycles-kept r x y xl yl c NoCycle = refl
+cycles-kept r x y xl yl c OneCycle = refl
+cycles-kept r x y xl yl c Vector = refl
+cycles-kept r x y xl yl c Character = refl
+cycles-kept r x y xl yl c Block = refl
 
+-- nor do its way, its end and what it writes depend on X and Y
+module _ (x y : ℕ) (r : Regs) (c : ℕ) where
   pub wayX-placed : (i : ℕ) (k : Kind) → wayX (withPlace x y r) c i k ≡ wayX r c i k
   unfolding wayX line character block turned
   wayX-placed i Vector = refl

@@ -1,10 +1,10 @@
 -- Every dot that granted cycles write lies in the picture's memory, on every format: its screen is one of the picture
 -- memory's, for which that is proved once over width and height.
 -- Assumes nothing.
-use mathlib.Core.Path.{_≡_, refl, sym, ap, _∙_}
+use mathlib.Core.Path.{_≡_, refl, sym, _∙_}
 use mathlib.Core.Logic.{⊎-elim, _⊎_, inl, inr}
 use mathlib.Core.Bool.{Bool, true, false, cond, _&&_, _||_, false≢true}
-use mathlib.Core.List.{List, [], _∷_, _++_}
+use mathlib.Core.List.{List, [], _++_}
 use Prim.Native.Nat.{ℕ, zero, suc, _-_, _*_, _<_, min}
 use Rattle.picture.specs.Dot.{has}
 use Rattle.picture.specs.Screen.{place}

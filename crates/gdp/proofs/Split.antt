@@ -2,27 +2,24 @@
 -- first dots are written.
 -- Assumes nothing.
 use mathlib.Core.Path.{_≡_, refl, sym, ap, ap₂, _∙_}
-use mathlib.Core.Bool.{Bool, true, false, cond, _&&_}
-use mathlib.Core.List.{List, [], _∷_, _++_, append-assoc, append-nil}
-use Prim.Native.Nat.{ℕ, zero, suc, _+_, _-_, _%_, _≤_, _<_, min}
+use mathlib.Core.Bool.{Bool, true, false, cond}
+use mathlib.Core.List.{List, [], _++_, append-assoc, append-nil}
+use Prim.Native.Nat.{ℕ, zero, suc, _+_, _-_, min}
 use native.Mathlib.Omega.{arith}
 use native.Mathlib.Nat.{add-assoc, zero-add, add-zero, suc-add, add-suc}
 use lib.Dec.{ltb}
 use borrow.Author.Tests.{le-ltb, ltb-false, ltb-true}
-use Rattle.picture.specs.Bit.{bitAt}
-use Rattle.picture.specs.Screen.{place}
 use Rattle.motion.specs.Position.{ahead, behind}
 use Rattle.parts.specs.declared.format.Format.{Format}
 use Rattle.parts.specs.declared.sequence.Work.{Work}
 use Rattle.parts.specs.declared.sequence.Work.the-variants.{Idle, Steps, Clear}
-use Rattle.parts.specs.Format.{width, height}
 use Rattle.parts.specs.Command.{kind}
 use Rattle.gdp.specs.declared.state.Regs.{Regs}
 use Rattle.gdp.specs.declared.state.Gdp.{Gdp}
 use Rattle.gdp.specs.State.{withPlace, withRegs, withWork, readyRaises}
-use Rattle.gdp.specs.Figure.{cycles, wayX, wayY, endX, endY, writes}
-use Rattle.gdp.specs.Cycles.{startX, startY, placeX, placeY, penDown, lights, cyclic, dotOf, dotsFrom, leftOf, left, used, dotsOf, dots, standing, ended, afterOf, after}
-use Rattle.gdp.proofs.Figures.{cycles-placed, wayX-placed, wayY-placed, endX-placed, endY-placed, writes-placed}
+use Rattle.gdp.specs.Figure.{cycles, wayX, wayY, endX, endY}
+use Rattle.gdp.specs.Cycles.{startX, startY, placeX, placeY, penDown, cyclic, dotOf, dotsFrom, leftOf, left, used, dotsOf, dots, standing, ended, afterOf, after}
+use Rattle.gdp.proofs.Figures.{cycles-kept, wayX-placed, wayY-placed, endX-placed, endY-placed, writes-placed}
 
 -- from the place of a cycle back to the start
 back : (x o w : ℕ) → behind (ahead (behind x o) w) w ≡ behind x o
@@ -51,7 +48,7 @@ module _ (r : Regs) (c p q : ℕ) where
 
   cycles-moved : cycles moved c ≡ cycles r c
   unfolding moved cycles
-  cycles-moved = cycles-placed (placeX r c p q) (placeY r c p q) r c (kind c)
+  cycles-moved = cycles-kept r (placeX r c p q) (placeY r c p q) (r .xlp) (r .ylp) c (kind c)
 
   dot-moved : (f : Format) (t : List ℕ) (i : ℕ) → dotOf f moved t c q i ≡ dotOf f r t c p i
   unfolding moved dotOf penDown cyclic

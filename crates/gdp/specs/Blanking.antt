@@ -4,7 +4,6 @@ use Prim.Native.Nat.{ℕ, _+_, _*_}
 use mathlib.Core.Bool.{Bool, true, false, cond, _&&_, not}
 use mathlib.Core.List.{List}
 use Rattle.picture.specs.Dot.{whole}
-use Rattle.parts.specs.declared.sequence.Pen.{Pen}
 use Rattle.parts.specs.declared.sequence.Pen.the-variants.{Off}
 use Rattle.parts.specs.Sequence.{clearOpen, penOpen, clearLights, clearFalls, penFalls, clearRises, penRises}
 use Rattle.gdp.specs.declared.state.Gdp.{Gdp}

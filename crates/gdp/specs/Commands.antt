@@ -4,7 +4,6 @@ use Prim.Native.Nat.{ℕ}
 use mathlib.Core.Bool.{Bool, true, false, cond, _||_}
 use lib.Dec.{eqb}
 use Rattle.picture.specs.Bit.{withBit}
-use Rattle.parts.specs.declared.sequence.Work.{Work}
 use Rattle.parts.specs.declared.sequence.Work.the-variants.{Steps, Clear}
 use Rattle.parts.specs.declared.sequence.Pen.the-variants.{Waiting}
 use Rattle.parts.specs.declared.command.Kind.{Kind}

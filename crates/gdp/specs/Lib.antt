@@ -7,6 +7,7 @@ pub mod Commands
 pub mod Blanking
 pub mod Refusals
 pub mod Calls
+pub mod Good
 pub mod Play
 pub mod Readings
 pub mod MoreReadings

@@ -1,18 +1,15 @@
 -- A second table of readings, which pins what document 01's own leave free. Each row's right side was worked out by hand
 -- from the paper. EF9366 with the pen down unless said.
 -- Assumes nothing.
-use Prim.Native.Nat.{ℕ, zero, suc, _+_, _-_, _*_, _^_}
-use mathlib.Core.Bool.{Bool, true, false}
+use Prim.Native.Nat.{ℕ, zero, suc, _+_, _^_}
+use mathlib.Core.Bool.{true, false}
 use mathlib.Core.List.{List, [], _∷_, _++_}
 use lib.ListN.{replicate}
 use Rattle.picture.specs.Dot.{paint}
 use Rattle.parts.specs.declared.format.Format.{Format}
 use Rattle.parts.specs.declared.format.Format.the-variants.{Ef9366, FmatHigh, FmatLow}
-use Rattle.parts.specs.declared.sequence.Work.{Work}
-use Rattle.parts.specs.declared.sequence.Work.the-variants.{Idle, Steps, Clear}
-use Rattle.parts.specs.declared.sequence.Pen.{Pen}
-use Rattle.parts.specs.declared.sequence.Pen.the-variants.{Off, Waiting, Open}
-use Rattle.gdp.specs.declared.state.Regs.{Regs}
+use Rattle.parts.specs.declared.sequence.Work.the-variants.{Steps, Clear}
+use Rattle.parts.specs.declared.sequence.Pen.the-variants.{Waiting, Open}
 use Rattle.gdp.specs.declared.state.Gdp.{Gdp}
 use Rattle.gdp.specs.State.{regs, withRegs, withWork, withPen, withVb, fresh}
 use Rattle.gdp.specs.Calls.{written, readOut, granted, blanked, struck, located}

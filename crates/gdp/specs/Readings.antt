@@ -1,6 +1,6 @@
 -- The readings that document 01 marks [P], as one table. EF9366, CTRL1 = 3, X = Y = 0, CSIZE 11 unless said.
 -- Assumes nothing.
-use Prim.Native.Nat.{ℕ, _+_, _*_, _/_, _%_}
+use Prim.Native.Nat.{ℕ, _/_, _%_}
 use mathlib.Core.Bool.{true, false}
 use mathlib.Core.List.{List, [], _∷_}
 use Rattle.picture.specs.Screen.{dotNumber}

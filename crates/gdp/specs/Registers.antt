@@ -1,7 +1,7 @@
 -- The registers at their addresses: what an accepted read gives and leaves, what an accepted write stores.
 -- Assumes nothing.
 use Prim.Native.Nat.{ℕ, _+_, _*_, _/_, _%_}
-use mathlib.Core.Bool.{Bool, true, false, cond, _||_}
+use mathlib.Core.Bool.{false, cond, _||_}
 use lib.Dec.{eqb}
 use Rattle.picture.specs.Bit.{withBit}
 use Rattle.gdp.specs.declared.state.Regs.{Regs}

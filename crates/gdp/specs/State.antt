@@ -1,7 +1,7 @@
 -- The state with one part put anew, all else as it was; the fresh state; a signal that rises.
 -- Assumes nothing.
 use Prim.Native.Nat.{ℕ}
-use mathlib.Core.Bool.{Bool, true, false, _||_}
+use mathlib.Core.Bool.{Bool, false, _||_}
 use Rattle.picture.specs.Bit.{bitAt}
 use Rattle.parts.specs.declared.format.Format.{Format}
 use Rattle.parts.specs.declared.sequence.Work.{Work}

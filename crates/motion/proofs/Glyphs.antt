@@ -2,11 +2,11 @@
 -- Assumes nothing.
 use mathlib.Core.Path.{_≡_, sym, ap, ap₂, _∙_}
 use mathlib.Core.Logic.{⊎-elim}
-use mathlib.Core.Bool.{Bool, true, _&&_}
-use Prim.Native.Nat.{ℕ, _%_, _<_}
+use mathlib.Core.Bool.{_&&_}
+use Prim.Native.Nat.{ℕ, _%_}
 use native.Mathlib.Omega.{arith}
 use lib.Dec.{ltb}
-use lib.ListN.{getD, replicate, getD-replicate}
+use lib.ListN.{getD, getD-replicate}
 use borrow.Author.Tests.{ltb-true}
 use Rattle.picture.specs.Bit.{bitAt}
 use Rattle.picture.proofs.Dots.{split, all-ones}

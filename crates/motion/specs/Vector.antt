@@ -2,7 +2,7 @@
 -- Assumes nothing.
 use mathlib.Core.Path.{_≡_}
 use Prim.Native.Nat.{ℕ, _+_, _-_, _*_, _/_, _%_, _≤_, max, min}
-use mathlib.Core.Bool.{Bool, true, false, cond, _||_}
+use mathlib.Core.Bool.{Bool, cond, _||_}
 use lib.Dec.{eqb, ltb}
 use Rattle.picture.specs.Bit.{bitAt}
 use Rattle.motion.specs.declared.vector.Line.{Line}

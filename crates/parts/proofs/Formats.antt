@@ -1,9 +1,9 @@
 -- What every format has: a window whose sides are powers of two, held in the memory that document 01's table gives.
 -- Assumes nothing.
 use mathlib.Core.Path.{_≡_, refl}
-use Prim.Native.Nat.{ℕ, _*_, _^_, _≤_}
+use Prim.Native.Nat.{_^_}
 use native.Mathlib.Omega.{arith}
-use Rattle.picture.specs.Screen.{Screen, Power}
+use Rattle.picture.specs.Screen.{Screen}
 use Rattle.parts.specs.declared.format.Format.{Format}
 use Rattle.parts.specs.declared.format.Format.the-variants.{Ef9366, FmatHigh, FmatLow}
 use Rattle.parts.specs.Format.{width, height, bytes, widthBits, heightBits}

@@ -1,9 +1,9 @@
 -- A bit written by a mask.
 -- Assumes nothing.
-use mathlib.Core.Path.{_≡_, refl, sym, ap, ap₂, _∙_, subst}
-use mathlib.Core.Bool.{Bool, true, false}
-use Prim.Native.Nat.{ℕ, zero, suc, _+_, _-_, _*_, _/_, _%_, _^_, _<_, _≤_, min, max, suc-le-suc}
-use native.Mathlib.Nat.{pow-suc, le-of-suc-le-suc, not-suc-le-zero, max-eq-right, max-zero, min-zero, min-eq-left, mod-eq-of-lt, one-mul, mul-one, mul-assoc, pow-succ', div-div-eq-div-mul}
+use mathlib.Core.Path.{_≡_, _∙_}
+use mathlib.Core.Bool.{true, false}
+use Prim.Native.Nat.{ℕ, zero, suc, _-_, _*_, _/_, _%_, _^_, _<_}
+use native.Mathlib.Nat.{pow-suc, le-of-suc-le-suc, not-suc-le-zero, max-eq-right, max-zero, min-zero, min-eq-left, mod-eq-of-lt, one-mul}
 use native.Mathlib.Omega.{arith}
 use lib.Bits.{bitAnd, bitOr, or-step, and-step, or-zero-r, and-mask}
 use lib.Pow.{pow-lt, pow-pos}

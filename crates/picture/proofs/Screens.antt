@@ -1,11 +1,11 @@
 -- The laws of positions: every dot that a position has lies in the picture, and no two positions of the window share one.
 -- Once over width and height.
 -- Assumes nothing.
-use mathlib.Core.Path.{_≡_, refl, sym, ap, _∙_}
+use mathlib.Core.Path.{_≡_, sym, ap, _∙_}
 use mathlib.Core.Logic.{⊎-elim}
-use mathlib.Core.Bool.{Bool, true, false, or-false, false≢true}
-use mathlib.Core.List.{List, [], _∷_}
-use Prim.Native.Nat.{ℕ, _+_, _-_, _*_, _/_, _%_, _^_, _<_, _≤_}
+use mathlib.Core.Bool.{Bool, true, or-false, false≢true}
+use mathlib.Core.List.{[], _∷_}
+use Prim.Native.Nat.{ℕ, _+_, _-_, _*_, _/_, _%_, _<_, _≤_}
 use native.Mathlib.Nat.{mul-left-comm, mul-le-mul-right, suc-mul, mul-comm, mul-add-div-right, div-eq-of-lt, add-zero, mod-lt}
 use native.Mathlib.Omega.{arith}
 use lib.Bits.{bitAnd, and-mask}

@@ -1,15 +1,9 @@
 -- `picture::dot::with_bit` meets its contract: `|` with the mask makes the bit 1, `&` with its complement makes it 0.
 -- Assumes nothing.
-use Prim.Native.Nat.{ℕ, _<_, _^_}
 use borrow.Author.Needs.{needs}
 use Rattle.picture.proofs.Masks.{or-bit, and-bit, mask}
 use Rattle.picture.proofs.dot.with_bit.Statement.{statement}
 use Rattle.picture.proofs.dot.with_bit.Tie as tie
-use Rattle.picture.proofs.dot.with_bit.Reads as reads
-use Rattle.picture.proofs.dot.with_bit.Lts as lts
-
-shl-mask : tie.Need-shl-mask
-shl-mask c = search needs
 
 returns : tie.Need-returns
 returns c =
@@ -22,4 +16,4 @@ returns-2 c =
     rw (mask (a .k) (c .before .pre), c .if1 .left, and-bit 8 (a .k) (a .v) (c .before .pre) (c .before .fits .v .fits))
 
 pub with-bit-spec : {M : Type 1} → statement M
-with-bit-spec = tie.close (tie.spec shl-mask returns returns-2)
+with-bit-spec = tie.close (tie.spec (λ c. search needs) returns returns-2)

@@ -12,8 +12,5 @@ sub-result c = omega (arith, power-some (c .before .pre))
 returns : tie.Need-returns
 returns c = rw (c .if1 .taken) (fold-mask (c .before .args .size) (c .before .args .p) (c .before .pre))
 
-returns-2 : tie.Need-returns-2
-returns-2 c = search needs
-
 pub fold-spec : {M : Type 1} → statement M
-fold-spec = tie.close (tie.spec sub-result returns returns-2)
+fold-spec = tie.close (tie.spec sub-result returns (λ c. search needs))

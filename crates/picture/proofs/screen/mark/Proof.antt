@@ -5,33 +5,19 @@ use borrow.Author.Needs.{needs}
 use Rattle.picture.proofs.Screens.{in-window}
 use Rattle.picture.proofs.screen.mark.Statement.{statement}
 use Rattle.picture.proofs.screen.mark.Tie as tie
-use Rattle.picture.proofs.screen.mark.Reads as reads
-use Rattle.picture.proofs.screen.mark.Lts as lts
-use Rattle.picture.proofs.dot.set_dot.Reads as set-dot-reads
 
 -- the dot is in the picture
 inside : (c : tie.Start) → c .args .y * c .args .width + c .args .x < 8 * length (c .args .pic .now)
 inside c = in-window (c .args .width) (c .args .height) (length (c .args .pic .now)) (c .args .x) (c .args .y) (c .pre .0) (c .pre .1 .0) (c .pre .1 .1)
 
--- src/lib.rt:47:18
 mul-set-dot : tie.Need-mul-set-dot
 mul-set-dot c = omega (arith, inside (c .before .before))
 
--- src/lib.rt:47:18
 add-set-dot : tie.Need-add-set-dot
 add-set-dot c = omega (arith, inside (c .before .before))
 
--- src/lib.rt:47:5
 set-dot-requires : tie.Need-set-dot-requires
 set-dot-requires c κs = inside (c .before .before)
 
--- src/lib.rt:42:1
-same-length : tie.Need-same-length
-same-length c = search needs
-
--- src/lib.rt:42:1
-returns : tie.Need-returns
-returns c = search needs
-
 pub mark-spec : {M : Type 1} → statement M
-mark-spec = tie.close (tie.spec mul-set-dot add-set-dot set-dot-requires same-length returns)
+mark-spec = tie.close (tie.spec mul-set-dot add-set-dot set-dot-requires (λ c. search needs) (λ c. search needs))
