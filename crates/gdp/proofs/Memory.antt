@@ -6,7 +6,7 @@ use mathlib.Core.Logic.{⊎-elim, _⊎_, inl, inr}
 use mathlib.Core.Bool.{Bool, true, false, cond, _&&_, _||_, false≢true}
 use mathlib.Core.List.{List, [], _++_}
 use Prim.Native.Nat.{ℕ, zero, suc, _-_, _*_, _<_, min}
-use Rattle.picture.specs.Dot.{has}
+use Rattle.picture.specs.Dot.{gathered, has}
 use Rattle.picture.specs.Screen.{place}
 use Rattle.picture.proofs.Dots.{has-append}
 use Rattle.picture.proofs.Screens.{place-fits}
@@ -54,7 +54,7 @@ module _ (f : Format) (r : Regs) (t : List ℕ) (c p : ℕ) where
   unfolding dotsFrom
   from-below i zero = none-below (8 * bytes f)
   from-below i (suc k) =
-      both-below (8 * bytes f) (dotOf f r t c p i) (dotsFrom f r t c p (suc i) k) (dot-below i) (from-below (suc i) k)
+      both-below (8 * bytes f) (dotOf f r t c p i) (gathered (dotOf f r t c p) (suc i) k) (dot-below i) (from-below (suc i) k)
 
 work-below : (f : Format) (r : Regs) (t : List ℕ) (n : ℕ) (w : Work) → Below (8 * bytes f) (dotsOf f r t n w)
 unfolding dotsOf

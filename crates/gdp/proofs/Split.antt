@@ -3,12 +3,13 @@
 -- Assumes nothing.
 use mathlib.Core.Path.{_≡_, refl, sym, ap, ap₂, _∙_}
 use mathlib.Core.Bool.{Bool, true, false, cond}
-use mathlib.Core.List.{List, [], _++_, append-assoc, append-nil}
-use Prim.Native.Nat.{ℕ, zero, suc, _+_, _-_, min}
+use mathlib.Core.List.{List, [], _++_, append-nil}
+use Prim.Native.Nat.{ℕ, _+_, _-_, min}
 use native.Mathlib.Omega.{arith}
-use native.Mathlib.Nat.{add-assoc, zero-add, add-zero, suc-add, add-suc}
+use native.Mathlib.Nat.{add-assoc}
 use lib.Dec.{ltb}
 use borrow.Author.Tests.{le-ltb, ltb-false, ltb-true}
+use Rattle.picture.proofs.Dots.{gathered-append, gathered-same}
 use Rattle.motion.specs.Position.{ahead, behind}
 use Rattle.parts.specs.declared.format.Format.{Format}
 use Rattle.parts.specs.declared.sequence.Work.{Work}
@@ -61,8 +62,7 @@ module _ (r : Regs) (c p q : ℕ) where
 
   dots-moved : (f : Format) (t : List ℕ) (i k : ℕ) → dotsFrom f moved t c q i k ≡ dotsFrom f r t c p i k
   unfolding dotsFrom
-  dots-moved f t i zero = refl
-  dots-moved f t i (suc k) = ap₂ _++_ (dot-moved f t i) (dots-moved f t (suc i) k)
+  dots-moved f t i k = gathered-same (dotOf f moved t c q) (dotOf f r t c p) i k (λ j _ _. dot-moved f t j)
 
   place-moved : (i : ℕ) → withPlace (placeX moved c q i) (placeY moved c q i) moved ≡ withPlace (placeX r c p i) (placeY r c p i) r
   unfolding moved
@@ -115,11 +115,7 @@ left-standing s c p q = ap (λ (m : ℕ). m - q) (cycles-moved (s .regs) c p q)
 dots-append : (f : Format) (r : Regs) (t : List ℕ) (c p i a b : ℕ)
     → dotsFrom f r t c p i (a + b) ≡ dotsFrom f r t c p i a ++ dotsFrom f r t c p (i + a) b
 unfolding dotsFrom
-dots-append f r t c p i zero b = rw (zero-add b, add-zero i)
-dots-append f r t c p i (suc a) b =
-    rw (suc-add a b, add-suc i a, ← suc-add i a)
-    (ap (λ (l : List ℕ). dotOf f r t c p i ++ l) (dots-append f r t c p (suc i) a b)
-    ∙ sym (append-assoc (dotOf f r t c p i) (dotsFrom f r t c p (suc i) a) (dotsFrom f r t c p (suc i + a) b)))
+dots-append f r t c p i a b = gathered-append (dotOf f r t c p) i a b
 
 -- a state in which no command uses cycles: idle, or clearing
 pub record Still (s : Gdp) : Type 0 where

@@ -1,11 +1,12 @@
 -- What n granted cycles use, write and leave. A running command of code c has used p of its cycles; X and Y stand on
 -- the place of cycle p, so its start is that place less the way to it.
 -- Assumes nothing.
-use Prim.Native.Nat.{ℕ, zero, suc, _+_, _-_, min}
+use Prim.Native.Nat.{ℕ, _+_, _-_, min}
 use mathlib.Core.Bool.{Bool, cond, _&&_}
-use mathlib.Core.List.{List, [], _++_}
+use mathlib.Core.List.{List, []}
 use lib.Dec.{ltb}
 use Rattle.picture.specs.Bit.{bitAt}
+use Rattle.picture.specs.Dot.{gathered}
 use Rattle.picture.specs.Screen.{place}
 use Rattle.motion.specs.Position.{ahead, behind}
 use Rattle.parts.specs.declared.format.Format.{Format}
@@ -51,8 +52,7 @@ dotOf f r table c p i =
 
 -- the dots of the k cycles from cycle i on
 unfoldable pub dotsFrom : Format → Regs → List ℕ → ℕ → ℕ → ℕ → ℕ → List ℕ
-dotsFrom f r table c p i zero = []
-dotsFrom f r table c p i (suc k) = dotOf f r table c p i ++ dotsFrom f r table c p (suc i) k
+dotsFrom f r table c p i k = gathered (dotOf f r table c p) i k
 
 -- the cycles left; none when idle or clearing
 unfoldable pub leftOf : Regs → Work → ℕ

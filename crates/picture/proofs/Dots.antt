@@ -1,17 +1,18 @@
 -- The laws of painting: what one written dot changes, and what a painted list changes.
 -- Assumes nothing.
-use mathlib.Core.Path.{_≡_, refl, sym, ap, _∙_}
+use mathlib.Core.Path.{_≡_, refl, sym, ap, ap₂, _∙_}
 use mathlib.Core.Logic.{⊎-elim, _⊎_, inl, inr}
 use mathlib.Core.Bool.{Bool, true, false, cond, _||_, or-assoc, Bool·beq}
-use mathlib.Core.List.{List, [], _∷_, _++_}
-use Prim.Native.Nat.{ℕ, zero, suc, _+_, _*_, _/_, _%_, _<_}
+use mathlib.Core.List.{List, [], _∷_, _++_, append-assoc, append-nil}
+use Prim.Native.Nat.{ℕ, zero, suc, _+_, _*_, _/_, _%_, _<_, _≤_}
+use native.Mathlib.Nat.{zero-add, add-zero, suc-add, add-suc}
 use native.Mathlib.Omega.{arith}
 use lib.Dec.{eqb, ltb}
 use lib.ListN.{length, getD, replicate, length-set, length-replicate, getD-replicate}
 use lib.Seq.{getD-set-same, getD-set-other, set-out, ext-getD}
 use borrow.Author.Tests.{eqb-true, eqb-false, ltb-true, ltb-false}
 use Rattle.picture.specs.Bit.{bitAt, withBit}
-use Rattle.picture.specs.Dot.{dotAt, setDot, paint, has, whole, solid, Bytes}
+use Rattle.picture.specs.Dot.{dotAt, setDot, paint, gathered, has, whole, solid, Bytes}
 use Rattle.picture.proofs.Table.{at, beq-eq}
 use Rattle.picture.proofs.Bits.{bit-same, bit-other, bit-fits, bit-ext}
 
@@ -73,6 +74,26 @@ paint-append b (d ∷ ds) es pic = paint-append b ds es (setDot b d pic)
 pub has-append : (d : ℕ) (ds es : List ℕ) → has d (ds ++ es) ≡ (has d ds || has d es)
 has-append d [] es = refl
 has-append d (e ∷ ds) es = simp (has-append d ds es) (sym (or-assoc (eqb d e) (has d ds) (has d es)))
+
+-- the steps of a run and then of another are those of both
+pub gathered-append : (dot : ℕ → List ℕ) (i a b : ℕ) → gathered dot i (a + b) ≡ gathered dot i a ++ gathered dot (i + a) b
+gathered-append dot i zero b = rw (zero-add b, add-zero i)
+gathered-append dot i (suc a) b =
+    rw (suc-add a b, add-suc i a, ← suc-add i a)
+    (ap (λ (l : List ℕ). dot i ++ l) (gathered-append dot (suc i) a b)
+    ∙ sym (append-assoc (dot i) (gathered dot (suc i) a) (gathered dot (suc i + a) b)))
+
+-- one step more, as a loop paints it
+pub paint-more : (b : Bool) (dot : ℕ → List ℕ) (i k : ℕ) (pic : List ℕ)
+    → paint b (gathered dot i (k + 1)) pic ≡ paint b (dot (i + k)) (paint b (gathered dot i k) pic)
+paint-more b dot i k pic =
+    rw (gathered-append dot i k 1, append-nil (dot (i + k))) (paint-append b (gathered dot i k) (dot (i + k)) pic)
+
+-- runs whose steps write the same dots
+pub gathered-same : (f g : ℕ → List ℕ) (i k : ℕ) → ((j : ℕ) → i ≤ j → j < i + k → f j ≡ g j) → gathered f i k ≡ gathered g i k
+gathered-same f g i zero h = refl
+gathered-same f g i (suc k) h =
+    ap₂ _++_ (h i (omega arith) (omega arith)) (gathered-same f g (suc i) k (λ j l m. h j (omega arith) (omega arith)))
 
 cond-same : (t b : Bool) → cond t b b ≡ b
 cond-same true b = refl

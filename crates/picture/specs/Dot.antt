@@ -1,8 +1,8 @@
 -- A picture is a list of bytes. A dot has a number: dot d is bit d % 8 of byte d / 8, and a lit dot is 1.
 -- Assumes nothing.
-use Prim.Native.Nat.{ℕ, _/_, _%_, _<_}
+use Prim.Native.Nat.{ℕ, zero, suc, _/_, _%_, _<_}
 use mathlib.Core.Bool.{Bool, true, false, _||_}
-use mathlib.Core.List.{List, [], _∷_}
+use mathlib.Core.List.{List, [], _∷_, _++_}
 use lib.Dec.{eqb}
 use lib.ListN.{length, getD, set, replicate}
 use Rattle.picture.specs.Bit.{bitAt, withBit}
@@ -19,6 +19,11 @@ setDot lit d pic = set pic (d / 8) (withBit lit (d % 8) (getD pic (d / 8) 0))
 abbrev pub paint : Bool → List ℕ → List ℕ → List ℕ
 paint lit [] pic = pic
 paint lit (d ∷ ds) pic = paint lit ds (setDot lit d pic)
+
+-- the dots of the k steps from step i on, where step i writes the dots `dot i`
+abbrev pub gathered : (ℕ → List ℕ) → ℕ → ℕ → List ℕ
+gathered dot i zero = []
+gathered dot i (suc k) = dot i ++ gathered dot (suc i) k
 
 -- d is in the list
 abbrev pub has : ℕ → List ℕ → Bool
