@@ -76,7 +76,7 @@ some-cycles r c h = ⊎-elim (λ e. absurd (h e)) (λ k. k .0) (begins r c (kind
 
 -- a command without write cycles leaves a clear or a pen sequence that waits for its frame, or what was
 prompt-keeps : (s : Gdp) (c : ℕ) → Good s → Good (prompt s c)
-unfolding prompt readyRaises penOpen
+unfolding prompt readyRaises
 prompt-keeps s c g =
     cond-case Good (clearing c) (λ _. work-put g (and-false (s .vb))) λ _.
     cond-case Good (eqb c 0x08 || eqb c 0x09) (λ _. record { regs = g .regs; work = g .work; pen = and-false (s .vb) }) λ _.
@@ -124,7 +124,6 @@ read-keeps s a g =
 
 -- VB falls: it is low in the frames that open
 falls : (r : Regs) (vb : Bool) (w : Work) → GoodWork r vb w → GoodWork r false (clearFalls w)
-unfolding clearFalls
 falls r vb Idle h = tt
 falls r vb (Steps c p) h = h
 falls r vb (Clear f o) h = refl
@@ -135,13 +134,11 @@ fallen-keeps s g = record { regs = g .regs; work = falls (s .regs) (s .vb) (s .w
 
 -- VB rises: no frame is open after it, and the registers stay
 rises : (r : Regs) (vb : Bool) (w : Work) → GoodWork r vb w → GoodWork r true (clearRises w)
-unfolding clearRises
 rises r vb Idle h = tt
 rises r vb (Steps c p) h = h
 rises r vb (Clear f o) h = cond-case (GoodWork r true) o (λ _. tt) (λ e. e)
 
 pen-rises : (p : Pen) → penOpen (penRises p) ≡ false
-unfolding penOpen penRises
 pen-rises Off = refl
 pen-rises Waiting = refl
 pen-rises Open = refl
@@ -173,7 +170,7 @@ vb-keeps s level g =
 
 -- an LPCK edge: bit 1 of 4h + 1 is low
 edge-keeps : (s : Gdp) (h v : ℕ) → Good s → Good (afterEdge s h v)
-unfolding afterEdge penRaises penOpen
+unfolding afterEdge penRaises
 edge-keeps s h v g =
     let low : bitAt 1 (4 * h + 1) ≡ false = ne-eqb ((4 * h + 1) / 2 % 2) 1 (omega arith) in
     let work = work-kept (s .regs) (s .regs .x) (s .regs .y) (4 * h + 1) v (s .vb) (s .work) (g .work) in

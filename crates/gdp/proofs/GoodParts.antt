@@ -149,7 +149,6 @@ commanded-good r c g =
 
 -- while no command runs, any registers go
 pub ready-work : (r : Regs) (vb : Bool) (w : Work) → ready w ≡ true → GoodWork r vb w
-unfolding ready
 ready-work r vb Idle e = tt
 ready-work r vb (Steps c p) e = absurd (false≢true e)
 ready-work r vb (Clear f o) e = absurd (false≢true e)

@@ -25,5 +25,5 @@ use Rattle.gdp.specs.Readings.{card, pen, cyclicPen, from, draw, offRigh
 use Rattle.gdp.specs.MoreReadings.{frame, registers, prompts, flagReadings, full, clears, lightPen, fan, directions, vectors, lineTypes, lettered, letter, characters, walkX, walkY, addresses, six, withRow, running, codes, refused, taken, takenBusy, states, moreReadings}
 
 unfoldable pub computed : Unit {0}
-unfolding setDot place lineOn givenX givenY lengthX lengthY minusX minusY lineOf vectorCycles offset alongX alongY vectorX vectorY scale scaleP scaleQ characterOf blockOf bodyCycles uOf vOf columnOf rowOf bodyX bodyY bodyEndX bodyEndY glyphOf solidGlyph inked width height bytes kind lettering ready noPen clearOpen penOpen clearLights clearFalls penFalls clearRises penRises lowest addressOf fresh penRaises vbRaises readyRaises outside flagged status registerAt penRead afterRead stored line character block turned tilted cyclesOf cycles wayX wayY endX endY glyph writes startX startY placeX placeY penDown lights cyclic dotOf dotsFrom leftOf left used dotsOf dots standing ended afterOf after commanded clearing prompt begunOf begun afterWrite fallen clearEnds penEnds risen afterVb pictureVb afterEdge badRegs badWork bad wrongPicture wrongTable noAddress penAddress busy tiltedCharacter offScreen writeNumber readNumber grantNumber vbNumber edgeNumber addressNumber answer outcome written readOut granted blanked struck noOutputs located kept outcomeOf noteOf lines noted next final said drawn ends dark blank new row box numbers just same every card pen cyclicPen from draw offRight offTop cell readings frame registers prompts flagReadings full clears lightPen fan directions vectors lineTypes lettered letter characters walkX walkY addresses six withRow running codes refused taken takenBusy states moreReadings
+unfolding setDot place lineOn givenX givenY lengthX lengthY minusX minusY lineOf vectorCycles offset alongX alongY vectorX vectorY scale scaleP scaleQ characterOf blockOf bodyCycles uOf vOf columnOf rowOf bodyX bodyY bodyEndX bodyEndY glyphOf solidGlyph inked width height bytes kind lowest addressOf fresh penRaises vbRaises readyRaises outside flagged status registerAt penRead afterRead stored line character block turned tilted cyclesOf cycles wayX wayY endX endY glyph writes startX startY placeX placeY penDown lights cyclic dotOf dotsFrom leftOf left used dotsOf dots standing ended afterOf after commanded clearing prompt begunOf begun afterWrite fallen clearEnds penEnds risen afterVb pictureVb afterEdge badRegs badWork bad wrongPicture wrongTable noAddress penAddress busy tiltedCharacter offScreen writeNumber readNumber grantNumber vbNumber edgeNumber addressNumber answer outcome written readOut granted blanked struck noOutputs located kept outcomeOf noteOf lines noted next final said drawn ends dark blank new row box numbers just same every card pen cyclicPen from draw offRight offTop cell readings frame registers prompts flagReadings full clears lightPen fan directions vectors lineTypes lettered letter characters walkX walkY addresses six withRow running codes refused taken takenBusy states moreReadings
 computed = tt

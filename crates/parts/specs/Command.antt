@@ -18,7 +18,7 @@ kind c =
     Vector)))))
 
 -- a character command: 20 to 7F, 0A, 0B
-unfoldable pub lettering : Kind → Bool
+abbrev pub lettering : Kind → Bool
 lettering Character = true
 lettering Block = true
 lettering Vector = false

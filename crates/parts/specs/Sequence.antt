@@ -7,52 +7,52 @@ use Rattle.parts.specs.declared.sequence.Pen.{Pen}
 use Rattle.parts.specs.declared.sequence.Pen.the-variants.{Off, Waiting, Open}
 
 -- ready: no command runs
-unfoldable pub ready : Work → Bool
+abbrev pub ready : Work → Bool
 ready Idle = true
 ready (Steps c d) = false
 ready (Clear f o) = false
 
 -- no pen sequence is under way
-unfoldable pub noPen : Pen → Bool
+abbrev pub noPen : Pen → Bool
 noPen Off = true
 noPen Waiting = false
 noPen Open = false
 
 -- a clear is inside its frame; the pen's sequence is inside its frame
-unfoldable pub clearOpen : Work → Bool
+abbrev pub clearOpen : Work → Bool
 clearOpen Idle = false
 clearOpen (Steps c d) = false
 clearOpen (Clear f o) = o
 
-unfoldable pub penOpen : Pen → Bool
+abbrev pub penOpen : Pen → Bool
 penOpen Off = false
 penOpen Waiting = false
 penOpen Open = true
 
 -- a clear sets every dot as CTRL1 bit 1 says only where it is 0C
-unfoldable pub clearLights : Work → Bool → Bool
+abbrev pub clearLights : Work → Bool → Bool
 clearLights Idle bit1 = false
 clearLights (Steps c d) bit1 = false
 clearLights (Clear f o) bit1 = f && bit1
 
 -- a VB fall opens the frame of a clear that waits, and of a pen sequence that waits
-unfoldable pub clearFalls : Work → Work
+abbrev pub clearFalls : Work → Work
 clearFalls Idle = Idle
 clearFalls (Steps c d) = Steps c d
 clearFalls (Clear f o) = Clear f true
 
-unfoldable pub penFalls : Pen → Pen
+abbrev pub penFalls : Pen → Pen
 penFalls Off = Off
 penFalls Waiting = Open
 penFalls Open = Open
 
 -- a VB rise ends the frame: a clear that is in it is over, and so is the pen sequence
-unfoldable pub clearRises : Work → Work
+abbrev pub clearRises : Work → Work
 clearRises Idle = Idle
 clearRises (Steps c d) = Steps c d
 clearRises (Clear f o) = cond o Idle (Clear f o)
 
-unfoldable pub penRises : Pen → Pen
+abbrev pub penRises : Pen → Pen
 penRises Off = Off
 penRises Waiting = Waiting
 penRises Open = Off

@@ -1,6 +1,40 @@
 // The part and its FMAT input, by which the window has its width and height.
+ghost use mathlib.Core.Path.{_≡_};
+ghost use Rattle.parts.specs.Format.{width, height, bytes};
+
 pub enum Format {
     Ef9366,
     FmatHigh,
     FmatLow,
+}
+
+pub fn width_of(f: Format) -> u16
+    ensures { λ r. ⌜ r ≡ width f ⌝ }
+{
+    match f {
+        Format::Ef9366 => 512,
+        Format::FmatHigh => 512,
+        Format::FmatLow => 256,
+    }
+}
+
+pub fn height_of(f: Format) -> u16
+    ensures { λ r. ⌜ r ≡ height f ⌝ }
+{
+    match f {
+        Format::Ef9366 => 256,
+        Format::FmatHigh => 512,
+        Format::FmatLow => 256,
+    }
+}
+
+// The length of the picture's memory.
+pub fn bytes_of(f: Format) -> usize
+    ensures { λ r. ⌜ r ≡ bytes f ⌝ }
+{
+    match f {
+        Format::Ef9366 => 16384,
+        Format::FmatHigh => 32768,
+        Format::FmatLow => 8192,
+    }
 }
