@@ -1,9 +1,17 @@
-// One dot by its number, and all of them.
+// One bit, one dot by its number, and all of them.
 ghost use mathlib.Core.Path.{_≡_};
 ghost use Prim.Native.Nat.{_*_, _<_};
 ghost use lib.ListN.{length, replicate};
-ghost use Rattle.picture.specs.Bit.{withBit};
+ghost use Rattle.picture.specs.Bit.{bitAt, withBit};
 ghost use Rattle.picture.specs.Dot.{setDot, whole};
+
+// Bit k of v.
+pub fn bit_at(v: u8, k: u8) -> bool
+    requires { ⌜ k < 8 ⌝ }
+    ensures { λ r. ⌜ r ≡ bitAt k v ⌝ }
+{
+    (v >> k) % 2 == 1
+}
 
 // v with bit k lit or dark.
 pub fn with_bit(v: u8, k: u8, lit: bool) -> u8

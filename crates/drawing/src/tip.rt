@@ -1,0 +1,40 @@
+// The tip of the pen or eraser, over its window.
+ghost use mathlib.Core.Path.{_≡_};
+ghost use lib.ListN.{length};
+ghost use Rattle.picture.specs.Dot.{paint};
+ghost use Rattle.picture.specs.Screen.{Screen};
+ghost use Rattle.drawing.specs.Run.{mark};
+use picture::screen::put_dot;
+
+// The window and whether the screen is cyclic; whether the tip is down, and whether it lights (the pen) or darkens.
+pub struct Tip {
+    pub width: usize,
+    pub height: usize,
+    pub cyclic: bool,
+    pub down: bool,
+    pub lit: bool,
+}
+
+// A run of cycles: X and Y on the place of cycle `from`, and how many cycles.
+pub struct Run {
+    pub x: u16,
+    pub y: u16,
+    pub from: u16,
+    pub count: u16,
+}
+
+// A place.
+pub struct Spot {
+    pub x: u16,
+    pub y: u16,
+}
+
+// One cycle: its dot, where it is on and the tip is down.
+pub fn touch(pic: &mut [u8], t: Tip, on: bool, x: u16, y: u16)
+    requires { ⌜ Screen (t .width) (t .height) (length (now pic)) ⌝ }
+    ensures { λ _. ⌜ now (pic .exit) ≡ paint (t .lit) (mark t on x y) (now (pic .entry)) ⌝ }
+{
+    if t.down & on {
+        put_dot(pic, t.width, t.height, t.cyclic, x, y, t.lit);
+    }
+}
