@@ -29,7 +29,7 @@ cond-case P true h k = h refl
 cond-case P false h k = k refl
 
 -- an or is false exactly where both its parts are
-or-parts : (a b : Bool) → (a || b) ≡ false → (a ≡ false) × (b ≡ false)
+pub or-parts : (a b : Bool) → (a || b) ≡ false → (a ≡ false) × (b ≡ false)
 or-parts true b e = absurd (true≢false e)
 or-parts false b e = (refl, e)
 

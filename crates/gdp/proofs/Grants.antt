@@ -16,8 +16,9 @@ use Rattle.parts.specs.Refusal.{lowest}
 use Rattle.gdp.specs.declared.state.Gdp.{Gdp}
 use Rattle.gdp.specs.State.{readyRaises}
 use Rattle.gdp.specs.Figure.{cycles}
-use Rattle.gdp.specs.Cycles.{lights, used, dots, standing, ended, afterOf, after}
+use Rattle.gdp.specs.Cycles.{lights, dots, standing, ended, afterOf, after}
 use Rattle.gdp.specs.Refusals.{bad, wrongPicture, wrongTable, grantNumber}
+use Rattle.gdp.specs.Runs.{taken}
 use Rattle.gdp.specs.Calls.{Outcome, answer, outcome, granted}
 use Rattle.gdp.proofs.GoodParts.{cond-case, lowest-zero}
 use Rattle.gdp.proofs.Good.{after-good}
@@ -43,18 +44,11 @@ unfolding Keeps after lights
 after-lights s n = ap (bitAt 1) (after-work s n (s .work) .1)
 
 -- what a grant leaves where it is accepted, and where it is refused
-abbrev pub taken : Gdp → ℕ → List ℕ → List ℕ → Outcome
-taken s n p t =
-    record {
-      answer = record { number = 0; value = used s n; state = after s n };
-      picture = paint (lights (s .regs)) (dots s t n) p;
-    }
-
 abbrev pub refused : Gdp → ℕ → List ℕ → Outcome
 refused s number p = record { answer = record { number = number; value = 0; state = s }; picture = p }
 
 pub grant-taken : (s : Gdp) (n : ℕ) (p t : List ℕ) → grantNumber s p t ≡ 0 → granted s n p t ≡ taken s n p t
-unfolding granted outcome answer
+unfolding granted outcome answer taken
 grant-taken s n p t z = rw z
 
 pub grant-refused : (s : Gdp) (n : ℕ) (p t : List ℕ) → eqb (grantNumber s p t) 0 ≡ false → granted s n p t ≡ refused s (grantNumber s p t) p
@@ -78,6 +72,7 @@ pub record Joins (first then whole : Outcome) : Type 0 where
 
 pub grants-join : (s : Gdp) (j k : ℕ) (p t : List ℕ)
     → Joins (granted s j p t) (granted ((granted s j p t) .answer .state) k ((granted s j p t) .picture) t) (granted s (j + k) p t)
+unfolding taken
 grants-join s j k p t = go (eqb (grantNumber s p t) 0) refl
   where
     go : (b : Bool) → eqb (grantNumber s p t) 0 ≡ b

@@ -6,3 +6,6 @@ pub mod Settled
 pub mod GoodParts
 pub mod Good
 pub mod Grants
+pub mod Writes
+pub mod Runs
+pub mod Steps

@@ -86,12 +86,12 @@ after-standing s c p q k =
     (withWork (Steps c (q + k)) (withRegs (place-moved (s .regs) c p q (q + k) j) s))
     (readyRaises (withWork Idle (withRegs (end-moved (s .regs) c p q j) s)))
 
-after-steps : (s : Gdp) (c p n : ℕ) → s .work ≡ Steps c p
+pub after-steps : (s : Gdp) (c p n : ℕ) → s .work ≡ Steps c p
     → after s n ≡ cond (ltb (p + n) (cycles (s .regs) c)) (standing s c p (p + n)) (ended s c p)
 unfolding after afterOf
 after-steps s c p n e = ap (afterOf s n) e
 
-dots-steps : (s : Gdp) (t : List ℕ) (c p n : ℕ) → s .work ≡ Steps c p
+pub dots-steps : (s : Gdp) (t : List ℕ) (c p n : ℕ) → s .work ≡ Steps c p
     → dots s t n ≡ dotsFrom (s .format) (s .regs) t c p p (min n (cycles (s .regs) c - p))
 unfolding dots dotsOf
 dots-steps s t c p n e = ap (dotsOf (s .format) (s .regs) t n) e
@@ -103,7 +103,7 @@ dots-standing s t c p q n =
     dots-moved (s .regs) c p q (s .format) t q (min n (cycles (moved (s .regs) c p q) c - q))
     ∙ ap (λ (m : ℕ). dotsFrom (s .format) (s .regs) t c p q (min n (m - q))) (cycles-moved (s .regs) c p q)
 
-left-steps : (s : Gdp) (c p : ℕ) → s .work ≡ Steps c p → left s ≡ cycles (s .regs) c - p
+pub left-steps : (s : Gdp) (c p : ℕ) → s .work ≡ Steps c p → left s ≡ cycles (s .regs) c - p
 unfolding left leftOf
 left-steps s c p e = ap (leftOf (s .regs)) e
 
@@ -123,7 +123,7 @@ pub record Still (s : Gdp) : Type 0 where
   pub blank : (t : List ℕ) (n : ℕ) → dots s t n ≡ []
   pub none : left s ≡ 0
 
-idle-still : (s : Gdp) → s .work ≡ Idle → Still s
+pub idle-still : (s : Gdp) → s .work ≡ Idle → Still s
 unfolding after afterOf dots dotsOf left leftOf
 idle-still s e =
     record {
@@ -132,7 +132,7 @@ idle-still s e =
       none = ap (leftOf (s .regs)) e;
     }
 
-clear-still : (s : Gdp) (g o : Bool) → s .work ≡ Clear g o → Still s
+pub clear-still : (s : Gdp) (g o : Bool) → s .work ≡ Clear g o → Still s
 unfolding after afterOf dots dotsOf left leftOf
 clear-still s g o e =
     record {

@@ -7,8 +7,7 @@ use Rattle.motion.specs.Vector.{givenX, givenY, lengthX, lengthY, minusX, minus
 use Rattle.motion.specs.Character.{scale, scaleP, scaleQ, characterOf, blockOf, bodyCycles, uOf, vOf, columnOf, rowOf, bodyX, bodyY, bodyEndX, bodyEndY}
 use Rattle.motion.specs.Glyph.{glyphOf, solidGlyph, inked}
 use Rattle.parts.specs.Format.{width, height, bytes}
-use Rattle.parts.specs.Command.{kind, lettering}
-use Rattle.parts.specs.Sequence.{ready, noPen, clearOpen, penOpen, clearLights, clearFalls, penFalls, clearRises, penRises}
+use Rattle.parts.specs.Command.{kind}
 use Rattle.parts.specs.Refusal.{lowest}
 use Rattle.parts.specs.Address.{addressOf}
 use Rattle.gdp.specs.State.{fresh, penRaises, vbRaises, readyRaises}

@@ -8,6 +8,7 @@ pub mod Blanking
 pub mod Refusals
 pub mod Calls
 pub mod Good
+pub mod Runs
 pub mod Play
 pub mod Readings
 pub mod MoreReadings

@@ -2,7 +2,7 @@
 ghost use mathlib.Core.Path.{_≡_};
 ghost use mathlib.Core.Bool.{Bool, cond};
 ghost use Prim.Native.Nat.{ℕ, _+_, _≤_, _<_};
-ghost use Rattle.motion.specs.Position.{ahead, behind, signed};
+ghost use Rattle.motion.specs.Position.{ahead, behind};
 ghost use Rattle.motion.specs.Character.{scale, characterOf, blockOf, bodyX, bodyY, Sized, Counts, OnPlace};
 use crate::position::backward;
 use crate::position::forward;

@@ -1,10 +1,10 @@
 // How a vector steps: by an error term, so that no dot costs a division.
 ghost use mathlib.Core.Path.{_≡_};
-ghost use mathlib.Core.Bool.{cond, Bool};
+ghost use mathlib.Core.Bool.{cond};
 ghost use Prim.Native.Nat.{ℕ, _+_, _*_, _/_, _%_, _≤_, _<_, max};
 ghost use lib.Dec.{ltb};
 ghost use Rattle.picture.specs.Bit.{bitAt};
-ghost use Rattle.motion.specs.Position.{ahead, behind, signed};
+ghost use Rattle.motion.specs.Position.{behind};
 ghost use Rattle.motion.specs.Vector.{lengthX, lengthY, minusX, minusY, lineOf, vectorX, vectorY, errorOf, Lengths, OnDot};
 use crate::position::advance;
 

@@ -1,0 +1,86 @@
+// Refusal 1, which every call gives: states that the processor cannot be in.
+ghost use mathlib.Core.Path.{_≡_};
+ghost use Prim.Native.Nat.{_≤_};
+ghost use Rattle.gdp.specs.Figure.{cycles, tilted};
+ghost use Rattle.gdp.specs.Refusals.{badRegs, badWork, bad, busy};
+use crate::state::Gdp;
+use motion::character::block_of;
+use motion::character::character_of;
+use motion::vector::line_of;
+use parts::command::Kind;
+use parts::command::is_lettering;
+use parts::command::kind_of;
+use parts::sequence::Work;
+use parts::sequence::is_pen_open;
+use parts::sequence::is_ready;
+use picture::dot::bit_at;
+
+impl Gdp {
+    // The cycles of a command by the present registers; 0 for one that takes no write cycle.
+    pub fn cycles_of(self, code: u8) -> u16
+        ensures { λ r. ⌜ (r ≡ cycles (self .regs) code) × (r ≤ 12288) ⌝ }
+    {
+        let r = self.regs;
+        let k = kind_of(code);
+        match k {
+            Kind::NoCycle => 0,
+            Kind::OneCycle => 1,
+            Kind::Vector => {
+                let l = line_of(code, r.deltax, r.deltay);
+                l.long + 1
+            }
+            Kind::Character => {
+                let b = character_of(r.csize);
+                b.columns * b.rows
+            }
+            Kind::Block => {
+                let b = block_of(r.csize);
+                b.columns * b.rows
+            }
+        }
+    }
+
+    pub fn is_tilted(self) -> bool
+        ensures { λ r. ⌜ r ≡ tilted (self .regs) ⌝ }
+    {
+        bit_at(self.regs.ctrl2, 2)
+    }
+
+    pub fn is_busy(self) -> bool
+        ensures { λ r. ⌜ r ≡ busy self ⌝ }
+    {
+        let w = self.work;
+        !is_ready(w)
+    }
+
+    fn is_bad_regs(self) -> bool
+        ensures { λ r. ⌜ r ≡ badRegs (self .regs) ⌝ }
+    {
+        let r = self.regs;
+        (4095 < r.x) | (4095 < r.y) | (127 < r.ctrl1) | (15 < r.ctrl2) | bit_at(r.xlp, 1)
+    }
+
+    fn is_bad_work(self) -> bool
+        ensures { λ r. ⌜ r ≡ badWork (self .regs) (self .vb) (self .work) ⌝ }
+    {
+        let w = self.work;
+        match w {
+            Work::Idle => false,
+            Work::Steps { code, done } => {
+                let over = self.cycles_of(code) <= done;
+                let k = kind_of(code);
+                over | (is_lettering(k) & self.is_tilted())
+            }
+            Work::Clear { fill: _, open } => self.vb & open,
+        }
+    }
+
+    pub fn is_bad(self) -> bool
+        ensures { λ r. ⌜ r ≡ bad self ⌝ }
+    {
+        let p = self.pen;
+        let regs = self.is_bad_regs();
+        let work = self.is_bad_work();
+        regs | work | (self.vb & is_pen_open(p))
+    }
+}
