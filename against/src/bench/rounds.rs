@@ -1,0 +1,115 @@
+//! Interleaved rounds of timing, and their medians.
+
+use super::runner::{Runner, Second};
+use super::tuned::Tuned;
+use super::workload::{Scene, Workload, ALL};
+use std::time::{Duration, Instant};
+
+/// Many short rounds rather than few long ones: most then fall between two interruptions.
+pub const ROUNDS: usize = 151;
+/// How long one contender runs in one round, about.
+const SPELL: Duration = Duration::from_micros(500);
+
+/// Nanoseconds per unit.
+#[derive(Clone, Copy)]
+pub struct Row {
+    pub name: &'static str,
+    pub unit: &'static str,
+    /// None where the library's code does not run.
+    pub ours: Option<f64>,
+    pub second: f64,
+    pub tuned: f64,
+}
+
+/// A workload made ready for one contender.
+trait Contender {
+    fn spell(&mut self, passes: u64) -> Duration;
+    fn picture(&self) -> &[u8];
+}
+
+struct Ready<R> {
+    workload: Workload,
+    scene: Scene<R>,
+}
+
+impl<R: Runner> Contender for Ready<R> {
+    fn spell(&mut self, passes: u64) -> Duration {
+        let began = Instant::now();
+        for _ in 0..passes {
+            self.workload.pass(&mut self.scene);
+        }
+        began.elapsed()
+    }
+
+    fn picture(&self) -> &[u8] {
+        &self.scene.picture
+    }
+}
+
+/// All workloads in every round, so that a slow spell of the machine falls on all alike.
+pub fn table() -> Vec<Row> {
+    let mut sets: Vec<_> = ALL.iter().map(|(_, workload, _)| contenders(*workload)).collect();
+    ALL.iter().zip(&mut sets).for_each(|((name, ..), set)| check(name, set));
+    let passes: Vec<Vec<u64>> = sets.iter_mut().map(|set| set.iter_mut().map(calibrated).collect()).collect();
+    let mut times: Vec<Vec<Vec<f64>>> = sets.iter().map(|set| vec![Vec::new(); set.len()]).collect();
+    for _ in 0..ROUNDS {
+        for (w, set) in sets.iter_mut().enumerate() {
+            for (c, contender) in set.iter_mut().enumerate() {
+                let units = (passes[w][c] * ALL[w].1.units()) as f64;
+                times[w][c].push(contender.spell(passes[w][c]).as_nanos() as f64 / units);
+            }
+        }
+    }
+    ALL.iter().zip(times).map(|((name, _, unit), times)| row(name, unit, times)).collect()
+}
+
+/// The two peers, and the library last where it runs.
+fn contenders(workload: Workload) -> Vec<Box<dyn Contender>> {
+    let second = Ready::<Second> { workload, scene: workload.scene() };
+    let tuned = Ready::<Tuned> { workload, scene: workload.scene() };
+    let peers: Vec<Box<dyn Contender>> = vec![Box::new(second), Box::new(tuned)];
+    with_ours(peers, workload)
+}
+
+#[cfg(linked)]
+fn with_ours(mut peers: Vec<Box<dyn Contender>>, workload: Workload) -> Vec<Box<dyn Contender>> {
+    peers.push(Box::new(Ready::<super::runner::Ours> { workload, scene: workload.scene() }));
+    peers
+}
+
+#[cfg(not(linked))]
+fn with_ours(peers: Vec<Box<dyn Contender>>, _: Workload) -> Vec<Box<dyn Contender>> {
+    peers
+}
+
+/// A time counts only for the same picture.
+fn check(name: &str, set: &mut [Box<dyn Contender>]) {
+    set.iter_mut().for_each(|contender| {
+        contender.spell(1);
+    });
+    let alike = set.iter().all(|contender| contender.picture() == set[0].picture());
+    assert!(alike, "the contenders draw different pictures in {name}: their times cannot be compared");
+}
+
+fn calibrated(contender: &mut Box<dyn Contender>) -> u64 {
+    let mut passes = 1;
+    loop {
+        let took = contender.spell(passes);
+        if took >= SPELL / 2 {
+            return (passes as f64 * SPELL.as_secs_f64() / took.as_secs_f64()).ceil() as u64;
+        }
+        passes *= 2;
+    }
+}
+
+fn row(name: &'static str, unit: &'static str, times: Vec<Vec<f64>>) -> Row {
+    let mut medians = times.into_iter().map(median);
+    let mut next = || medians.next();
+    let (second, tuned) = (next().unwrap_or(f64::NAN), next().unwrap_or(f64::NAN));
+    Row { name, unit, ours: next(), second, tuned }
+}
+
+fn median(mut times: Vec<f64>) -> f64 {
+    times.sort_by(f64::total_cmp);
+    times[times.len() / 2]
+}

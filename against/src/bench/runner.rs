@@ -1,0 +1,107 @@
+//! The contenders behind the same few calls, on an EF9366. None of them is asked for what it would refuse.
+
+use super::morning::Draws;
+use super::tuned::Tuned;
+use second::{Format, State};
+
+pub trait Runner: Draws + Clone {
+    fn fresh() -> Self;
+    fn read(&mut self, address: u8) -> u16;
+    /// From the command to its end, from VB high to VB high.
+    fn clear(&mut self, picture: &mut [u8]);
+}
+
+/// The library, its state crossing by value both ways.
+#[cfg(linked)]
+#[derive(Clone)]
+pub struct Ours(crate::flat::Flat);
+
+#[cfg(linked)]
+impl Draws for Ours {
+    fn write(&mut self, address: u8, value: u8) {
+        self.0 = crate::ffi::write(self.0, address, value).state;
+    }
+
+    fn grant(&mut self, n: u16, picture: &mut [u8], table: &[u8]) -> u16 {
+        let answer = crate::ffi::grant(self.0, n, picture, table);
+        self.0 = answer.state;
+        answer.value
+    }
+}
+
+#[cfg(linked)]
+impl Runner for Ours {
+    fn fresh() -> Ours {
+        Ours(crate::ffi::fresh(0).state)
+    }
+
+    fn read(&mut self, address: u8) -> u16 {
+        let answer = crate::ffi::read(self.0, address);
+        self.0 = answer.state;
+        answer.value
+    }
+
+    fn clear(&mut self, picture: &mut [u8]) {
+        self.write(0, 0x04);
+        self.0 = crate::ffi::set_vb(self.0, 0, picture).state;
+        self.0 = crate::ffi::set_vb(self.0, 1, picture).state;
+    }
+}
+
+/// The model's loop, one cycle at a time.
+#[derive(Clone)]
+pub struct Second(State);
+
+impl Draws for Second {
+    fn write(&mut self, address: u8, value: u8) {
+        self.0 = second::write(&self.0, address, value).state;
+    }
+
+    fn grant(&mut self, n: u16, picture: &mut [u8], table: &[u8]) -> u16 {
+        let answer = second::cycles(&self.0, n, picture, table);
+        self.0 = answer.state;
+        answer.value
+    }
+}
+
+impl Runner for Second {
+    fn fresh() -> Second {
+        Second(second::fresh(Format::Ef9366))
+    }
+
+    fn read(&mut self, address: u8) -> u16 {
+        let answer = second::read(&self.0, address);
+        self.0 = answer.state;
+        answer.value
+    }
+
+    fn clear(&mut self, picture: &mut [u8]) {
+        self.write(0, 0x04);
+        self.0 = second::set_vb(&self.0, false, picture).state;
+        self.0 = second::set_vb(&self.0, true, picture).state;
+    }
+}
+
+impl Draws for Tuned {
+    fn write(&mut self, address: u8, value: u8) {
+        Tuned::write(self, address, value);
+    }
+
+    fn grant(&mut self, n: u16, picture: &mut [u8], table: &[u8]) -> u16 {
+        Tuned::grant(self, n, picture, table).unwrap_or(0)
+    }
+}
+
+impl Runner for Tuned {
+    fn fresh() -> Tuned {
+        Tuned::new(Format::Ef9366)
+    }
+
+    fn read(&mut self, address: u8) -> u16 {
+        Tuned::read(self, address).map_or(0, u16::from)
+    }
+
+    fn clear(&mut self, picture: &mut [u8]) {
+        picture.fill(0);
+    }
+}

@@ -1,0 +1,166 @@
+//! The library behind an emulator: the program `bridge` makes its calls on a file that both map. A byte on a
+//! pipe hands the turn over, so the two never touch the file at once.
+
+use crate::card::Card;
+use crate::flat::{Flat, FlatAddress, FlatAnswer, ALL_ONES};
+use crate::lent::Part;
+use crate::shared::Shared;
+use std::cell::RefCell;
+use std::io::{Read, Write};
+use std::process::{Child, Command, Stdio};
+
+// The same order as in bridge/bridge.c.
+const FRESH: u8 = 0;
+const WRITE: u8 = 1;
+const READ: u8 = 2;
+const GRANT: u8 = 3;
+const SET_VB: u8 = 4;
+const LPCK: u8 = 5;
+const ADDRESS: u8 = 6;
+
+/// The start of the file, laid out as in bridge/bridge.c.
+#[repr(C)]
+#[derive(Clone, Copy)]
+struct Turn {
+    kind: u8,
+    first: u8,
+    second: u8,
+    unused: u8,
+    n: u16,
+    m: u16,
+    pic: u64,
+    pic_len: u64,
+    table: u64,
+    table_len: u64,
+    state: Flat,
+    answer: FlatAnswer,
+    lines: FlatAddress,
+}
+
+const _: () = assert!(size_of::<Turn>() == 80);
+
+// Where the lent memories lie in the file, guards and all.
+const PICTURE: usize = 4_096;
+const TABLE: usize = PICTURE + 65_536;
+const LENGTH: usize = TABLE + 4_096;
+
+pub struct Library(RefCell<Bridge>);
+
+struct Bridge {
+    file: Shared,
+    program: Child,
+}
+
+impl Library {
+    /// Starts the emulator.
+    pub fn reach() -> Library {
+        let file = Shared::new(LENGTH);
+        let program = Command::new(env!("GDP_EMULATOR"))
+            .arg(env!("GDP_BRIDGE"))
+            .arg(file.name())
+            .arg(LENGTH.to_string())
+            .stdin(Stdio::piped())
+            .stdout(Stdio::piped())
+            .spawn()
+            .unwrap_or_else(|why| panic!("the emulator {} did not start: {why}", env!("GDP_EMULATOR")));
+        let mut bridge = Bridge { file, program };
+        bridge.wait();
+        Library(RefCell::new(bridge))
+    }
+}
+
+impl Bridge {
+    fn wait(&mut self) {
+        let from = self.program.stdout.as_mut().expect("its output is a pipe");
+        from.read_exact(&mut [0]).expect("the bridge to the library ended; is the archive whole?");
+    }
+
+    fn take(&mut self, turn: Turn) -> Turn {
+        self.file.put(0, turn);
+        let to = self.program.stdin.as_mut().expect("its input is a pipe");
+        to.write_all(&[1]).expect("the bridge to the library ended");
+        self.wait();
+        self.file.get(0)
+    }
+
+    fn with_parts(&mut self, turn: Turn, picture: Part, table: Option<Part>) -> Turn {
+        self.file.write(PICTURE, picture.whole);
+        if let Some(table) = &table {
+            self.file.write(TABLE, table.whole);
+        }
+        let turn = Turn {
+            pic: (PICTURE + picture.start) as u64,
+            pic_len: picture.length as u64,
+            table: (TABLE + table.as_ref().map_or(0, |table| table.start)) as u64,
+            table_len: table.as_ref().map_or(0, |table| table.length) as u64,
+            ..turn
+        };
+        let after = self.take(turn);
+        self.file.read(PICTURE, picture.whole);
+        if let Some(table) = table {
+            self.file.read(TABLE, table.whole);
+        }
+        after
+    }
+}
+
+impl Drop for Bridge {
+    fn drop(&mut self) {
+        // The end of its input ends the program.
+        self.program.stdin.take();
+        let _ = self.program.wait();
+    }
+}
+
+fn turn(kind: u8, state: Flat) -> Turn {
+    Turn {
+        kind,
+        first: 0,
+        second: 0,
+        unused: 0,
+        n: 0,
+        m: 0,
+        pic: 0,
+        pic_len: 0,
+        table: 0,
+        table_len: 0,
+        state,
+        // Bytes that no call answers, so that an answer left out shows.
+        answer: FlatAnswer { number: 0xEE, value: 0xEEEE, state: ALL_ONES },
+        lines: FlatAddress { number: 0xEE, low: 0xEE, high: 0xEE, msl: 0xEE },
+    }
+}
+
+impl Card for Library {
+    fn fresh(&self, format: u8) -> FlatAnswer {
+        let turn = Turn { first: format, ..turn(FRESH, ALL_ONES) };
+        self.0.borrow_mut().take(turn).answer
+    }
+
+    fn write(&self, state: Flat, address: u8, value: u8) -> FlatAnswer {
+        let turn = Turn { first: address, second: value, ..turn(WRITE, state) };
+        self.0.borrow_mut().take(turn).answer
+    }
+
+    fn read(&self, state: Flat, address: u8) -> FlatAnswer {
+        self.0.borrow_mut().take(Turn { first: address, ..turn(READ, state) }).answer
+    }
+
+    fn grant(&self, state: Flat, n: u16, picture: Part, table: Part) -> FlatAnswer {
+        let turn = Turn { n, ..turn(GRANT, state) };
+        self.0.borrow_mut().with_parts(turn, picture, Some(table)).answer
+    }
+
+    fn set_vb(&self, state: Flat, level: u8, picture: Part) -> FlatAnswer {
+        let turn = Turn { first: level, ..turn(SET_VB, state) };
+        self.0.borrow_mut().with_parts(turn, picture, None).answer
+    }
+
+    fn lpck(&self, state: Flat, h: u16, v: u16) -> FlatAnswer {
+        self.0.borrow_mut().take(Turn { n: h, m: v, ..turn(LPCK, state) }).answer
+    }
+
+    fn address(&self, state: Flat) -> FlatAddress {
+        self.0.borrow_mut().take(turn(ADDRESS, state)).lines
+    }
+}

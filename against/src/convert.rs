@@ -1,0 +1,121 @@
+//! The model's state as a flat one and back.
+
+use crate::flat::{self, Flat};
+use second::{ClearKind, Flags, Format, Pen, State, Work};
+
+/// 04, 06 and 07 end alike once accepted, so the flat form only tells 0C from them.
+pub fn flattened(state: &State) -> Flat {
+    let (code, done, work) = work_fields(&state.work);
+    Flat {
+        x: state.x,
+        y: state.y,
+        done,
+        ctrl1: state.ctrl1,
+        ctrl2: state.ctrl2,
+        csize: state.csize,
+        deltax: state.deltax,
+        deltay: state.deltay,
+        xlp: state.xlp,
+        ylp: state.ylp,
+        code,
+        modes: format_number(state.format) | work | pen_bits(state.pen),
+        signals: signals(state),
+    }
+}
+
+/// None when the flat value stands for no state.
+pub fn state_of(flat: &Flat) -> Option<State> {
+    if flat.signals > flat::SIGNALS {
+        return None;
+    }
+    Some(State {
+        format: format_of(flat.modes & flat::FORMAT)?,
+        ctrl1: flat.ctrl1,
+        ctrl2: flat.ctrl2,
+        csize: flat.csize,
+        deltax: flat.deltax,
+        deltay: flat.deltay,
+        x: flat.x,
+        y: flat.y,
+        xlp: flat.xlp,
+        ylp: flat.ylp,
+        work: work_of(flat)?,
+        pen: pen_of(flat.modes & flat::PEN)?,
+        vb: flat.signals & flat::VB != 0,
+        flags: Flags {
+            pen_end: flat.signals & flat::PEN_FLAG != 0,
+            vb_rise: flat.signals & flat::VB_FLAG != 0,
+            ready: flat.signals & flat::READY_FLAG != 0,
+        },
+    })
+}
+
+pub fn format_of(number: u8) -> Option<Format> {
+    match number {
+        0 => Some(Format::Ef9366),
+        1 => Some(Format::Ef9365High),
+        2 => Some(Format::Ef9365Low),
+        _ => None,
+    }
+}
+
+pub fn format_number(format: Format) -> u8 {
+    match format {
+        Format::Ef9366 => 0,
+        Format::Ef9365High => 1,
+        Format::Ef9365Low => 2,
+    }
+}
+
+/// Code, progress, and the bits of `modes`.
+fn work_fields(work: &Work) -> (u8, u16, u8) {
+    match *work {
+        Work::Idle => (0, 0, flat::IDLE),
+        Work::Steps { code, done } => (code, done, flat::STEPS),
+        Work::Clear { kind, open } => {
+            let fill = if kind == ClearKind::Fill { flat::CLEAR_IS_0C } else { 0 };
+            let open = if open { flat::CLEAR_IS_OPEN } else { 0 };
+            (0, 0, flat::CLEAR | fill | open)
+        }
+    }
+}
+
+/// A field that the work has no use for must be 0, or two flat values would stand for one state.
+fn work_of(flat: &Flat) -> Option<Work> {
+    let stepless = flat.code == 0 && flat.done == 0;
+    let clear_bits = flat.modes & (flat::CLEAR_IS_0C | flat::CLEAR_IS_OPEN);
+    match flat.modes & flat::WORK {
+        flat::IDLE if stepless && clear_bits == 0 => Some(Work::Idle),
+        flat::STEPS if clear_bits == 0 => Some(Work::Steps { code: flat.code, done: flat.done }),
+        flat::CLEAR if stepless => Some(Work::Clear {
+            kind: if flat.modes & flat::CLEAR_IS_0C != 0 { ClearKind::Fill } else { ClearKind::Screen },
+            open: flat.modes & flat::CLEAR_IS_OPEN != 0,
+        }),
+        _ => None,
+    }
+}
+
+fn pen_bits(pen: Pen) -> u8 {
+    match pen {
+        Pen::Off => flat::PEN_OFF,
+        Pen::Waiting => flat::PEN_WAITING,
+        Pen::Open => flat::PEN_OPEN,
+    }
+}
+
+fn pen_of(bits: u8) -> Option<Pen> {
+    match bits {
+        flat::PEN_OFF => Some(Pen::Off),
+        flat::PEN_WAITING => Some(Pen::Waiting),
+        flat::PEN_OPEN => Some(Pen::Open),
+        _ => None,
+    }
+}
+
+fn signals(state: &State) -> u8 {
+    let bit = |high: bool, bit: u8| if high { bit } else { 0 };
+    bit(state.vb, flat::VB)
+        | bit(state.flags.pen_end, flat::PEN_FLAG)
+        | bit(state.flags.vb_rise, flat::VB_FLAG)
+        | bit(state.flags.ready, flat::READY_FLAG)
+}

@@ -1,0 +1,64 @@
+//! Single calls: a state drawn by itself, and what is known of it before either card is asked.
+
+use super::arguments::{self, WrongLengths};
+use super::{impossible, no_state, states};
+use crate::call::Call;
+use crate::convert::{flattened, state_of};
+use crate::flat::Flat;
+use crate::random::Random;
+use second::{fresh, Format, State};
+
+/// What refusal number 1 has to do with a drawn state.
+#[derive(Clone, Copy, PartialEq, Eq, Debug)]
+pub enum Known {
+    Good,
+    /// Refused 1 for the cause at this place of `causes`.
+    Refused(usize),
+    Nothing,
+}
+
+/// Every cause of refusal 1 by name: those of impossible states, then those of flat values that are none.
+pub fn causes() -> impl Iterator<Item = &'static str> {
+    let impossible = impossible::CAUSES.iter().map(|(name, _)| *name);
+    impossible.chain(no_state::CAUSES.iter().map(|(name, _)| *name))
+}
+
+pub fn state(random: &mut Random) -> (Flat, Known) {
+    match random.below(20) {
+        0..=6 => (flattened(&states::good(random)), Known::Good),
+        7..=14 => planted(random),
+        15 | 16 => (no_state::one_bit_off(random), Known::Nothing),
+        17 | 18 => (no_state::around_the_count(random), Known::Nothing),
+        _ => (no_state::bytes(random), Known::Nothing),
+    }
+}
+
+fn planted(random: &mut Random) -> (Flat, Known) {
+    let count = impossible::CAUSES.len() + no_state::CAUSES.len();
+    let cause = random.below(count as u64) as usize;
+    let flat = match cause.checked_sub(impossible::CAUSES.len()) {
+        None => flattened(&impossible::CAUSES[cause].1(random)),
+        Some(place) => no_state::CAUSES[place].1(random),
+    };
+    (flat, Known::Refused(cause))
+}
+
+/// Any call but a fresh state.
+pub fn call(random: &mut Random, flat: &Flat) -> Call {
+    let wrong = WrongLengths { percent: 12 };
+    let state = nearest(flat);
+    match random.below(16) {
+        0..=2 => arguments::write(random),
+        3 => arguments::command(random),
+        4 | 5 => arguments::read(random),
+        6..=9 => arguments::grant(random, &state, wrong),
+        10..=12 => arguments::set_vb(random, &state, wrong),
+        13 | 14 => arguments::lpck(random),
+        _ => Call::Address,
+    }
+}
+
+/// A state to take lengths and levels from, for a flat value that stands for none.
+fn nearest(flat: &Flat) -> State {
+    state_of(flat).unwrap_or_else(|| fresh(Format::Ef9366))
+}

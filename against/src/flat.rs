@@ -1,0 +1,77 @@
+//! What crosses the boundary, laid out as C lays it out.
+
+/// The state in two 64-bit words.
+#[repr(C)]
+#[derive(Clone, Copy, PartialEq, Eq, Debug)]
+pub struct Flat {
+    pub x: u16,
+    pub y: u16,
+    pub done: u16,
+    pub ctrl1: u8,
+    pub ctrl2: u8,
+    pub csize: u8,
+    pub deltax: u8,
+    pub deltay: u8,
+    pub xlp: u8,
+    pub ylp: u8,
+    pub code: u8,
+    pub modes: u8,
+    pub signals: u8,
+}
+
+#[repr(C)]
+#[derive(Clone, Copy, PartialEq, Eq, Debug)]
+pub struct FlatAnswer {
+    pub number: u8,
+    pub value: u16,
+    pub state: Flat,
+}
+
+#[repr(C)]
+#[derive(Clone, Copy, PartialEq, Eq, Debug)]
+pub struct FlatAddress {
+    pub number: u8,
+    pub low: u8,
+    pub high: u8,
+    pub msl: u8,
+}
+
+const _: () = assert!(size_of::<Flat>() == 16 && align_of::<Flat>() == 2);
+const _: () = assert!(size_of::<FlatAnswer>() == 20 && size_of::<FlatAddress>() == 4);
+
+/// What `gdp_fresh` hands back for a format that is none.
+pub const ALL_ONES: Flat = Flat {
+    x: 0xFFFF,
+    y: 0xFFFF,
+    done: 0xFFFF,
+    ctrl1: 0xFF,
+    ctrl2: 0xFF,
+    csize: 0xFF,
+    deltax: 0xFF,
+    deltay: 0xFF,
+    xlp: 0xFF,
+    ylp: 0xFF,
+    code: 0xFF,
+    modes: 0xFF,
+    signals: 0xFF,
+};
+
+// The fields of `modes`, from the lowest bit.
+pub const FORMAT: u8 = 0b0000_0011;
+pub const WORK: u8 = 0b0000_1100;
+pub const IDLE: u8 = 0 << 2;
+pub const STEPS: u8 = 1 << 2;
+pub const CLEAR: u8 = 2 << 2;
+pub const CLEAR_IS_0C: u8 = 1 << 4;
+pub const CLEAR_IS_OPEN: u8 = 1 << 5;
+pub const PEN: u8 = 0b1100_0000;
+pub const PEN_OFF: u8 = 0 << 6;
+pub const PEN_WAITING: u8 = 1 << 6;
+pub const PEN_OPEN: u8 = 2 << 6;
+
+// The bits of `signals`; the upper four are 0.
+pub const VB: u8 = 1 << 0;
+pub const PEN_FLAG: u8 = 1 << 1;
+pub const VB_FLAG: u8 = 1 << 2;
+pub const READY_FLAG: u8 = 1 << 3;
+pub const SIGNALS: u8 = 0b1111;

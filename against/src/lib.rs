@@ -1,0 +1,23 @@
+//! The proved EF9365 / EF9366, as its static library exports it, held against the independent model `second`.
+//! Nothing is proved here. What a comparison cannot see: calls it never makes.
+
+pub mod bench;
+#[cfg(not(linked))]
+pub mod bridge;
+pub mod call;
+pub mod card;
+pub mod convert;
+pub mod differ;
+pub mod difference;
+pub mod draw;
+#[cfg(linked)]
+pub mod ffi;
+pub mod flat;
+pub mod lent;
+pub mod library;
+pub mod model;
+pub mod random;
+pub mod scene;
+#[cfg(not(linked))]
+pub mod shared;
+pub mod tally;

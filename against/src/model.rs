@@ -1,0 +1,59 @@
+//! The independent model behind the same flat calls.
+
+use crate::card::Card;
+use crate::convert::{flattened, format_of, state_of};
+use crate::flat::{Flat, FlatAddress, FlatAnswer, ALL_ONES};
+use crate::lent::Part;
+use second::{Answer, State};
+
+#[derive(Clone, Copy)]
+pub struct Model;
+
+/// Refusal 1: the state is impossible, or the flat value stands for none.
+const BAD_STATE: u8 = 1;
+
+impl Card for Model {
+    fn fresh(&self, format: u8) -> FlatAnswer {
+        match format_of(format) {
+            Some(format) => FlatAnswer { number: 0, value: 0, state: flattened(&second::fresh(format)) },
+            None => FlatAnswer { number: BAD_STATE, value: 0, state: ALL_ONES },
+        }
+    }
+
+    fn write(&self, state: Flat, address: u8, value: u8) -> FlatAnswer {
+        answered(state, |state| second::write(state, address, value))
+    }
+
+    fn read(&self, state: Flat, address: u8) -> FlatAnswer {
+        answered(state, |state| second::read(state, address))
+    }
+
+    fn grant(&self, state: Flat, n: u16, mut picture: Part, mut table: Part) -> FlatAnswer {
+        answered(state, |state| second::cycles(state, n, picture.bytes(), table.bytes()))
+    }
+
+    fn set_vb(&self, state: Flat, level: u8, mut picture: Part) -> FlatAnswer {
+        answered(state, |state| second::set_vb(state, level != 0, picture.bytes()))
+    }
+
+    fn lpck(&self, state: Flat, h: u16, v: u16) -> FlatAnswer {
+        answered(state, |state| second::lpck(state, h, v))
+    }
+
+    fn address(&self, state: Flat) -> FlatAddress {
+        let Some(state) = state_of(&state) else {
+            return FlatAddress { number: BAD_STATE, low: 0, high: 0, msl: 0 };
+        };
+        let answer = second::address(&state);
+        FlatAddress { number: answer.number, low: answer.ck_low, high: answer.ck_high, msl: answer.msl }
+    }
+}
+
+/// A flat value that stands for no state is refused before the call sees it.
+fn answered(flat: Flat, call: impl FnOnce(&State) -> Answer) -> FlatAnswer {
+    let Some(state) = state_of(&flat) else {
+        return FlatAnswer { number: BAD_STATE, value: 0, state: flat };
+    };
+    let answer = call(&state);
+    FlatAnswer { number: answer.number, value: answer.value, state: flattened(&answer.state) }
+}

@@ -1,0 +1,87 @@
+//! What a run has covered.
+
+use crate::call::{Call, KINDS};
+use crate::draw::codes::{class_of, CLASSES};
+use crate::draw::single::{causes, Known};
+use std::fmt::{Display, Formatter, Result};
+
+/// A run this long must have met everything often enough.
+pub const WHOLE_RUN: u64 = 200_000;
+const OFTEN: u64 = 100;
+
+pub struct Tally {
+    pub calls: u64,
+    kinds: [u64; KINDS.len()],
+    numbers: [u64; 256],
+    commands: [u64; CLASSES.len()],
+    causes: Vec<(&'static str, u64)>,
+}
+
+impl Default for Tally {
+    fn default() -> Tally {
+        Tally {
+            calls: 0,
+            kinds: [0; KINDS.len()],
+            numbers: [0; 256],
+            commands: [0; CLASSES.len()],
+            causes: causes().map(|name| (name, 0)).collect(),
+        }
+    }
+}
+
+impl Tally {
+    pub fn count(&mut self, call: &Call, number: u8, known: Known) {
+        self.calls += 1;
+        self.kinds[call.kind()] += 1;
+        self.numbers[usize::from(number)] += 1;
+        if let (Call::Write { address: 0, value }, 0) = (call, number) {
+            let class = class_of(*value);
+            self.commands
+                .iter_mut()
+                .zip(CLASSES)
+                .filter(|(_, row)| row.0 == class)
+                .for_each(|(n, _)| *n += 1);
+        }
+        if let Known::Refused(cause) = known {
+            self.causes[cause].1 += 1;
+        }
+    }
+
+    /// Sentences for what a whole run met too seldom; a shorter run owes nothing.
+    pub fn gaps(&self) -> Vec<String> {
+        if self.calls < WHOLE_RUN {
+            return Vec::new();
+        }
+        let seldom = |what: String, count: u64| {
+            (count < OFTEN).then(|| format!("Only {count} calls, where at least {OFTEN} are wanted: {what}."))
+        };
+        let kinds = KINDS.iter().zip(self.kinds).filter_map(|(name, n)| seldom(name.to_string(), n));
+        let numbers = (0..9).filter_map(|number| seldom(format!("number {number}"), self.numbers[number]));
+        let commands =
+            CLASSES.iter().zip(self.commands).filter_map(|((_, name), n)| seldom(name.to_string(), n));
+        let causes = self.causes.iter().filter_map(|(name, n)| seldom(format!("refusal 1 for {name}"), *n));
+        kinds.chain(numbers).chain(commands).chain(causes).collect()
+    }
+}
+
+impl Display for Tally {
+    fn fmt(&self, out: &mut Formatter) -> Result {
+        writeln!(out, "Calls by kind")?;
+        rows(out, KINDS.into_iter().zip(self.kinds))?;
+        writeln!(out, "Calls by number (0 accepted)")?;
+        for (number, count) in self.numbers.iter().enumerate().filter(|(_, count)| **count > 0) {
+            writeln!(out, "{count:>10}  {number}")?;
+        }
+        writeln!(out, "Commands accepted")?;
+        rows(out, CLASSES.iter().map(|(_, name)| *name).zip(self.commands))?;
+        writeln!(out, "Causes of refusal 1, each planted by itself")?;
+        rows(out, self.causes.iter().copied())
+    }
+}
+
+fn rows(out: &mut Formatter, rows: impl Iterator<Item = (&'static str, u64)>) -> Result {
+    for (name, count) in rows {
+        writeln!(out, "{count:>10}  {name}")?;
+    }
+    Ok(())
+}
