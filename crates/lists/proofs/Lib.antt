@@ -1,0 +1,9 @@
+pub mod Demand3
+pub mod Laws
+pub mod Erasing
+pub mod Again
+pub mod Back
+pub mod Played
+pub mod Twin
+pub mod Items
+pub mod Splits
