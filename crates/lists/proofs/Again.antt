@@ -1,7 +1,7 @@
 -- The list played again from where it began, with the pen or the eraser: it paints the same dots, and ends beside the first end.
 -- Assumes nothing.
 use mathlib.Core.Path.{_≡_, refl, sym, ap, _∙_, subst}
-use mathlib.Core.Bool.{Bool, false, _||_, or-assoc, or-comm, or-self}
+use mathlib.Core.Bool.{Bool, true, false, _||_, or-comm, or-self}
 use mathlib.Core.List.{List}
 use Prim.Native.Nat.{ℕ}
 use native.Mathlib.Omega.{arith}
@@ -41,8 +41,14 @@ as-twin lit f s e = ap (λ (b : Bool). withFlags (flags (f .pen) (f .vb) b) (wit
 abbrev pub withReady : Bool → Flags → Flags
 withReady b f = flags (f .pen) (f .vb) (f .ready || b)
 
+or-absorb : (a b c : Bool) → (a || c) ≡ a → (a || b || c) ≡ (a || b)
+or-absorb true b c h = refl
+or-absorb false true c h = refl
+or-absorb false false c h = h
+
 -- flag ready, once high, is high at the end of a list
-stays-raised : (s : Gdp) (its : List Item) → Calm s → (s .flags .ready || (doneAll s its) .flags .ready) ≡ (doneAll s its) .flags .ready
+stays-raised : (s : Gdp) (its : List Item) → Calm s
+    → (s .flags .ready || (doneAll s its) .flags .ready) ≡ (doneAll s its) .flags .ready
 stays-raised s its c =
     ap (λ (t : Gdp). t .flags .ready)
     (sym (twin-list (lights (s .regs)) (s .flags) s its c) ∙ ap (λ (t : Gdp). doneAll t its) (own-twin s))
@@ -53,20 +59,20 @@ pub record Again (lit : Bool) (f : Flags) (s : Gdp) (tab : List ℕ) (its : List
   pub state : s₂ ≡ twin lit f s₁
   pub picture : p₂ ≡ paint lit (listDots s tab its) p₁
 
+-- the twin can be played wherever the state can
+twin-fits : (lit : Bool) (f : Flags) {s : Gdp} {p q tab : List ℕ} → Fit s p tab → length q ≡ length p → Fit (twin lit f s) q tab
+twin-fits lit f {s} h e =
+    record { good = twin-good lit f s (calm h); idle = h .idle; picture = e ∙ h .picture; table = h .table }
+
 module _ {s s₁ : Gdp} {p p₁ tab : List ℕ} {its : List Item} (h : Fit s p tab) (first : Plays tab s p its s₁ p₁) where
+  -- a second run from the twin of the start
   again : (lit : Bool) (f : Flags) {t s₂ : Gdp} {p₂ : List ℕ} → t ≡ twin lit f s → Plays tab t p₁ its s₂ p₂
       → Again lit f s tab its s₁ p₁ s₂ p₂
   unfolding lights
   again lit f {t} {s₂} {p₂} e second =
       let one = played h first in
-      let fits : Fit (twin lit f s) p₁ tab
-      = record {
-        good = twin-good lit f s (calm h);
-        idle = h .idle;
-        picture = ap length (one .picture) ∙ paint-length (lights (s .regs)) (listDots s tab its) p ∙ h .picture;
-        table = h .table;
-      }
-      in
+      let long = ap length (one .picture) ∙ paint-length (lights (s .regs)) (listDots s tab its) p in
+      let fits = twin-fits lit f h long in
       let two = played fits (subst (λ (t : Gdp). Plays tab t p₁ its s₂ p₂) e second) in
       record {
         state = two .state ∙ twin-list lit f s its (calm h) ∙ ap (twin lit f) (sym (one .state));
@@ -79,6 +85,7 @@ module _ {s s₁ : Gdp} {p p₁ tab : List ℕ} {its : List Item} (h : Fit s p t
       let e = played h first .state in
       restarts s s₁ (calm h) (subst Calm (sym e) (list-calm s its (calm h))) (ap frame e ∙ list-frame s its)
 
+  -- which no call refuses with 1, and whose ready flag the end of the first run has too
   start-calm : Calm (withFlags (s₁ .flags) s)
   start-calm = record { good = good-to (withFlags (s₁ .flags) s) (flags-put (s₁ .flags) (good-from s (h .good))); idle = h .idle }
 
@@ -114,14 +121,8 @@ module _ {s s₁ : Gdp} {p p₁ tab : List ℕ} {its : List Item} (h : Fit s p t
       let a = s₁ .flags .ready in
       let b = bitAt 6 (s .regs .ctrl1) in
       let same = bit-other false 1 6 (s .regs .ctrl1) (omega arith) in
-      let high : (a || b || s .flags .ready) ≡ (a || b)
-      = or-assoc a b (s .flags .ready)
-      ∙ ap (λ (x : Bool). a || x) (or-comm b (s .flags .ready))
-      ∙ sym (or-assoc a (s .flags .ready) b)
-      ∙ ap (λ (x : Bool). x || b) raised
-      in
       again false (withReady b (s₁ .flags))
       (ap eraserByCommand start-again
       ∙ erases-by-command (withFlags (s₁ .flags) s) start-calm
       ∙ ap (λ (x : Bool). withFlags (withReady x (s₁ .flags)) (withRegs (relit false (s .regs)) s)) same
-      ∙ as-twin false (withReady b (s₁ .flags)) s high)
+      ∙ as-twin false (withReady b (s₁ .flags)) s (or-absorb a b (s .flags .ready) raised))

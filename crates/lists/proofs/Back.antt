@@ -34,7 +34,7 @@ record Holds (t : Gdp) (r : Regs) (u : Gdp) : Type 0 where
   good : GoodRegs r
 
 module _ (t : Gdp) (c : Calm t) where
-  -- with such registers a write that is no command is accepted
+  -- with such registers no call refuses with 1, so a write that is no command is accepted
   holds-good : (r : Regs) → GoodRegs r → bad (withRegs r t) ≡ false
   holds-good r g = good-to (withRegs r t) (regs-put (good-from t (c .good)) g (ready-work r (t .vb) (t .work) (ap ready (c .idle))))
 
@@ -49,9 +49,11 @@ module _ (t : Gdp) (c : Calm t) where
         good = g;
       }
 
+  -- to begin with the registers are its own
   start : Holds t (t .regs) t
   start = record { state = refl; good = good-from t (c .good) .regs }
 
+  -- a byte leaves such registers again
   send-byte : (a v : ℕ) → (noAddress a || penAddress a || eqb a 0x0) ≡ false → v < 256 → {r : Regs} {u : Gdp}
       → Holds t r u → Holds t (stored r a v) (sent a v u)
   send-byte a v f b {r} h = send a v f h (stored-good r a v b (h .good))
@@ -62,9 +64,11 @@ module _ (t : Gdp) (c : Calm t) where
       regs (t .regs .ctrl1) (s .regs .ctrl2) (s .regs .csize) (s .regs .deltax) (s .regs .deltay)
       (s .regs .x) (s .regs .y) (t .regs .xlp) (t .regs .ylp)
 
+  -- the upper half written and then the lower
   halves : (x y : ℕ) → x ≤ 4095 → (x / 256 % 16 * 256 + y % 256) / 256 * 256 + x % 256 ≡ x
   halves x y h = omega arith
 
+  -- the eight writes lead to them
   put-back : (s : Gdp) → GoodRegs (s .regs) → Holds t (back s) (putBack s t)
   unfolding putBack stored noAddress penAddress back
   put-back s g =

@@ -25,11 +25,11 @@ use Rattle.gdp.specs.Calls.{answer, written}
 use Rattle.gdp.proofs.GoodParts.{cond-case}
 use Rattle.gdp.proofs.Good.{write-good, after-good}
 use Rattle.gdp.proofs.Split.{idle-still, after-steps, left-steps}
-use Rattle.lists.specs.Item.{isDrawn, Item, Set, Command, address, value}
+use Rattle.lists.specs.Item.{settings, resets, isDrawn, Item, Set, Command, address, value}
 use Rattle.lists.specs.Play.{wrote, done, doneAll}
 
--- a test, and what follows from either part of an or
-pub test : (b : Bool) → T b → b ≡ true
+-- a test that passes; what follows from either part of an or; what holds at n holds at a number that passes for n
+test : (b : Bool) → T b → b ≡ true
 test true t = refl
 test false t = absurd t
 
@@ -40,7 +40,7 @@ either false b f g t = g t
 at : (P : ℕ → Type 0) (n a : ℕ) → P n → T (eqb a n) → P a
 at P n a h t = subst P (sym (eqb-true a n (test (eqb a n) t))) h
 
--- what holds of each number of a list
+-- what holds of each number of a list holds of a number in it
 abbrev Each : (ℕ → Type 0) → List ℕ → Type 0
 Each P [] = Unit {0}
 Each P (n ∷ ns) = P n × Each P ns
@@ -65,18 +65,16 @@ pub each : (P : ℕ → ℕ → Type 0)
     → P 0x0 0x05 → P 0x0 0x0D → P 0x0 0x0E → ((c : ℕ) → T (isDrawn (kind c)) → P 0x0 c)
     → (it : Item) → P (address it) (value it)
 each P h2 h3 h5 h7 h8 h9 hA hB r5 rD rE draws (Set a v t b) =
-    one-of (λ (a : ℕ). (v : ℕ) → P a v) (0x2 ∷ 0x3 ∷ 0x5 ∷ 0x7 ∷ 0x8 ∷ 0x9 ∷ 0xA ∷ 0xB ∷ [])
-    (h2, (h3, (h5, (h7, (h8, (h9, (hA, (hB, tt)))))))) a t v
+    one-of (λ (a : ℕ). (v : ℕ) → P a v) settings (h2, (h3, (h5, (h7, (h8, (h9, (hA, (hB, tt)))))))) a t v
 each P h2 h3 h5 h7 h8 h9 hA hB r5 rD rE draws (Command c l b) =
-    either (has c (0x05 ∷ 0x0D ∷ 0x0E ∷ [])) (isDrawn (kind c))
-    (one-of (P 0x0) (0x05 ∷ 0x0D ∷ 0x0E ∷ []) (r5, (rD, (rE, tt))) c) (draws c) l
+    either (has c resets) (isDrawn (kind c)) (one-of (P 0x0) resets (r5, (rD, (rE, tt))) c) (draws c) l
 
 -- the next state of an item that is accepted
 unfoldable pub taking : Gdp → Item → Gdp
 taking s it = afterWrite s (address it) (value it)
 
 -- once an item is written: its next state, or, where it is refused, the state as handed in
-pub wrote-case : (P : Gdp → Type 0) (s : Gdp) (it : Item) → P (taking s it) → P s → P (wrote s it)
+wrote-case : (P : Gdp → Type 0) (s : Gdp) (it : Item) → P (taking s it) → P s → P (wrote s it)
 unfolding wrote written answer taking
 wrote-case P s it h k = cond-case P (eqb (writeNumber s (address it) (value it)) 0) (λ _. h) (λ _. k)
 
@@ -92,6 +90,7 @@ frame s =
       flags = flags false false false;
     }
 
+-- an item leaves it, accepted or refused
 taking-frame : (s : Gdp) (it : Item) → frame (taking s it) ≡ frame s
 unfolding taking afterWrite stored kind begun begunOf commanded prompt clearing readyRaises
 taking-frame s =
@@ -102,6 +101,7 @@ taking-frame s =
 pub wrote-frame : (s : Gdp) (it : Item) → frame (wrote s it) ≡ frame s
 wrote-frame s it = wrote-case (λ (t : Gdp). frame t ≡ frame s) s it (taking-frame s it) refl
 
+-- nor do the cycles of its command
 after-frame : (s : Gdp) (n : ℕ) (w : Work) → frame (afterOf s n w) ≡ frame s
 unfolding afterOf standing ended readyRaises
 after-frame s n Idle = refl
@@ -110,6 +110,7 @@ after-frame s n (Steps c p) =
     {x = standing s c p (p + n)} {y = ended s c p} (λ _. refl) (λ _. refl)
 after-frame s n (Clear f o) = refl
 
+-- so an item run to its end leaves it, and a list
 pub done-frame : (s : Gdp) (it : Item) → frame (done s it) ≡ frame s
 unfolding done after
 done-frame s it = let w = wrote s it in after-frame w (left w) (w .work) ∙ wrote-frame s it
@@ -124,7 +125,7 @@ pub record Calm (s : Gdp) : Type 0 where
   pub good : bad s ≡ false
   pub idle : s .work ≡ Idle
 
--- no item begins a clear, so each comes to its end by write cycles
+-- no item begins a clear
 abbrev clears : Work → Bool
 clears Idle = false
 clears (Steps c p) = false
@@ -140,6 +141,7 @@ taking-runs s it e =
 wrote-runs : (s : Gdp) (it : Item) → clears (s .work) ≡ false → clears ((wrote s it) .work) ≡ false
 wrote-runs s it e = wrote-case (λ (t : Gdp). clears (t .work) ≡ false) s it (taking-runs s it e) e
 
+-- so the cycles left lead to its end
 runs-out : (s : Gdp) (w : Work) → s .work ≡ w → clears w ≡ false → (after s (left s)) .work ≡ Idle
 unfolding ended readyRaises
 runs-out s Idle e f = ap (λ (t : Gdp). t .work) (idle-still s e .stays (left s)) ∙ e
@@ -149,6 +151,7 @@ runs-out s (Steps c p) e f =
     ap (λ (t : Gdp). t .work) end
 runs-out s (Clear g o) e f = absurd (true≢false f)
 
+-- what an item writes is a byte
 value-byte : (it : Item) → value it < 256
 value-byte (Set a v t b) = ltb-true v 256 (test (ltb v 256) b)
 value-byte (Command c l b) = ltb-true c 256 (test (ltb c 256) b)

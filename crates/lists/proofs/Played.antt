@@ -13,6 +13,7 @@ use Rattle.lists.specs.Play.{Fit, wrote, ranState, ranPicture, total, Pl
 use Rattle.lists.proofs.Splits.{split-free}
 use Rattle.lists.proofs.Items.{Calm, frame, wrote-frame, done-frame, wrote-good, done-calm}
 
+-- what can be played is calm
 pub calm : {s : Gdp} {p tab : List ℕ} → Fit s p tab → Calm s
 calm f = record { good = f .good; idle = f .idle }
 
@@ -29,20 +30,23 @@ pub record Left (s : Gdp) (tab p : List ℕ) (its : List Item) (t : Gdp) (q : Li
   pub state : t ≡ doneAll s its
   pub picture : q ≡ paint (lights (s .regs)) (listDots s tab its) p
 
--- one item
+-- one item: what it leaves, and that the next can be played there
 module _ {s : Gdp} {p tab : List ℕ} (f : Fit s p tab) (it : Item) (ns : List ℕ) (h : left (wrote s it) ≤ total ns) where
   ran : (ranState (wrote s it) tab ns p ≡ done s it)
       × (ranPicture (wrote s it) tab ns p ≡ paint (lights (s .regs)) (itemDots s tab it) p)
   unfolding done itemDots
   ran =
+      let w = wrote s it in
       let e = wrote-frame s it in
-      let out = split-free (wrote s it) tab ns p (wrote-good s it (f .good)) (f .picture ∙ ap bytes (sym (format-of s (wrote s it) e))) (f .table) h in
-      (out .state, out .picture ∙ rw (lights-of s (wrote s it) e))
+      let long = f .picture ∙ ap bytes (sym (format-of s w e)) in
+      let out = split-free w tab ns p (wrote-good s it (f .good)) long (f .table) h in
+      (out .state, out .picture ∙ rw (lights-of s w e))
 
   fits : Fit (ranState (wrote s it) tab ns p) (ranPicture (wrote s it) tab ns p) tab
   fits =
       let c = done-calm s it (calm f) in
-      let long = paint-length (lights (s .regs)) (itemDots s tab it) p ∙ f .picture ∙ ap bytes (sym (format-of s (done s it) (done-frame s it))) in
+      let same = format-of s (done s it) (done-frame s it) in
+      let long = paint-length (lights (s .regs)) (itemDots s tab it) p ∙ f .picture ∙ ap bytes (sym same) in
       rw (ran .0, ran .1) (record { good = c .good; idle = c .idle; picture = long; table = f .table })
 
 -- a list ends in the state that its items lead to, and its picture is painted with its dots
@@ -57,5 +61,6 @@ played {tab = tab} f (item {s = s} {p = p} it its ns h rest) =
       state = more .state ∙ ap (λ (t : Gdp). doneAll t its) (one .0);
       picture =
           more .picture
-          ∙ rw (one .0, one .1, lights-of s (done s it) (done-frame s it)) (sym (paint-append lit (itemDots s tab it) (listDots (done s it) tab its) p));
+          ∙ rw (one .0, one .1, lights-of s (done s it) (done-frame s it))
+          (sym (paint-append lit (itemDots s tab it) (listDots (done s it) tab its) p));
     }

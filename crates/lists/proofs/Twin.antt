@@ -26,7 +26,8 @@ use Rattle.gdp.specs.declared.state.Gdp.{Gdp}
 use Rattle.gdp.specs.State.{flags, withCtrl1, withPlace, withRegs, withWork, withFlags, readyRaises}
 use Rattle.gdp.specs.Registers.{stored}
 use Rattle.gdp.specs.Figure.{line, character, block, turned, tilted, cyclesOf, cycles, wayX, wayY, endX, endY, writes}
-use Rattle.gdp.specs.Cycles.{startX, startY, placeX, placeY, penDown, cyclic, dotOf, dotsFrom, leftOf, left, dotsOf, dots, standing, ended, afterOf, after}
+use Rattle.gdp.specs.Cycles.{startX, startY, placeX, placeY, penDown, cyclic, dotOf, dotsFrom}
+use Rattle.gdp.specs.Cycles.{leftOf, left, dotsOf, dots, standing, ended, afterOf, after}
 use Rattle.gdp.specs.Commands.{commanded, clearing, prompt, begunOf, begun, afterWrite}
 use Rattle.gdp.specs.Refusals.{bad, busy, tiltedCharacter, writeNumber}
 use Rattle.gdp.specs.Calls.{answer, written}

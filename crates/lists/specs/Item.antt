@@ -2,7 +2,7 @@
 -- Assumes nothing.
 use Prim.Native.Nat.{ℕ}
 use mathlib.Core.Bool.{Bool, true, false, _||_}
-use mathlib.Core.List.{[], _∷_}
+use mathlib.Core.List.{List, [], _∷_}
 use lib.Dec.{T, ltb}
 use Rattle.picture.specs.Dot.{has}
 use Rattle.parts.specs.declared.command.Kind.{Kind}
@@ -10,8 +10,12 @@ use Rattle.parts.specs.declared.command.Kind.the-variants.{NoCycle, OneCycle, V
 use Rattle.parts.specs.Command.{kind}
 
 -- the addresses of CTRL2, CSIZE, DELTAX, DELTAY, X and Y, both halves
-abbrev pub isSetting : ℕ → Bool
-isSetting a = has a (0x2 ∷ 0x3 ∷ 0x5 ∷ 0x7 ∷ 0x8 ∷ 0x9 ∷ 0xA ∷ 0xB ∷ [])
+abbrev pub settings : List ℕ
+settings = 0x2 ∷ 0x3 ∷ 0x5 ∷ 0x7 ∷ 0x8 ∷ 0x9 ∷ 0xA ∷ 0xB ∷ []
+
+-- the coordinate resets: X and Y, X, Y
+abbrev pub resets : List ℕ
+resets = 0x05 ∷ 0x0D ∷ 0x0E ∷ []
 
 -- a vector (10 to 1F, 80 to FF) or a character (20 to 7F, 0A, 0B)
 abbrev pub isDrawn : Kind → Bool
@@ -21,13 +25,13 @@ isDrawn Block = true
 isDrawn OneCycle = false
 isDrawn NoCycle = false
 
--- the resets 05, 0D and 0E, and what is drawn
+-- the commands of a list: the resets, and what is drawn
 abbrev pub isListed : ℕ → Bool
-isListed c = has c (0x05 ∷ 0x0D ∷ 0x0E ∷ []) || isDrawn (kind c)
+isListed c = has c resets || isDrawn (kind c)
 
 -- a byte written to a register, or a command
 pub data Item : Type 0 where
-  Set : (a v : ℕ) → T (isSetting a) → T (ltb v 256) → Item
+  Set : (a v : ℕ) → T (has a settings) → T (ltb v 256) → Item
   Command : (c : ℕ) → T (isListed c) → T (ltb c 256) → Item
 
 -- the write call's address and value: CMD is at 0

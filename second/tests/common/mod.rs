@@ -2,6 +2,7 @@
 //! never by asking the model.
 #![allow(dead_code)] // each test file uses only some of them
 
+pub mod dots;
 pub mod glyph;
 pub mod numbers;
 pub mod random;
