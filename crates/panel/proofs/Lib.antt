@@ -1,0 +1,12 @@
+pub mod Decimals
+pub mod LineLengths
+pub mod Answers
+pub mod Writing
+pub mod DotLines
+pub mod Pieces
+pub mod Lines
+pub mod Numbers
+pub mod Records
+pub mod Letters
+pub mod Playing
+pub mod Whole

@@ -1,0 +1,30 @@
+-- The lines of a text from a place on.
+-- Assumes nothing.
+use mathlib.Core.Path.{_≡_, _∙_}
+use mathlib.Core.Logic.{⊎-elim}
+use mathlib.Core.List.{List, [], _∷_}
+use Prim.Native.Nat.{ℕ, _+_, _-_, _<_, _≤_}
+use native.Mathlib.Omega.{arith}
+use lib.Dec.{ltb}
+use lib.ListN.{length, take, drop, drop-of-length-le}
+use borrow.Author.Tests.{ltb-true, ltb-false}
+use Rattle.picture.proofs.Dots.{split}
+use Rattle.panel.specs.Text.{linesOf}
+use Rattle.panel.specs.Found.{Found}
+use Rattle.panel.proofs.Pieces.{at-line-feeds, found-cut, found-whole}
+
+-- past the end there are no more
+pub lines-end : (input : List ℕ) (from : ℕ) → length input ≤ from → linesOf (drop from input) ≡ []
+unfolding linesOf
+lines-end input from h = rw (drop-of-length-le input h)
+
+-- the first line from a place on ends at the line feed found from there, or with the text
+pub lines-next : {input : List ℕ} {from e : ℕ} → Found input from 10 e → from < length input
+    → linesOf (drop from input) ≡ take (e - from) (drop from input) ∷ linesOf (drop (e + 1) input)
+lines-next {input} {from} {e} f h =
+    ⊎-elim
+    (λ t. found-cut at-line-feeds f (ltb-true e (length input) t))
+    (λ t.
+    let l = ltb-false e (length input) t in
+    found-whole at-line-feeds f l h ∙ rw (lines-end input (e + 1) (omega arith)))
+    (split (ltb e (length input)))

@@ -1,0 +1,160 @@
+-- What a line means, by its letter, the count of its fields, and the tabs found in it.
+-- Assumes nothing.
+use mathlib.Core.Path.{_≡_, refl, sym, ap, _∙_}
+use mathlib.Core.Logic.{_⊎_, inl, inr, ⊎-elim}
+use mathlib.Core.Bool.{Bool, false, and-false}
+use mathlib.Core.List.{List, [], _∷_}
+use Prim.Native.Nat.{ℕ, suc, _+_, _-_, _<_, _≤_}
+use native.Mathlib.Omega.{arith}
+use lib.Dec.{eqb}
+use lib.ListN.{length, getD, take, drop, length-drop}
+use lib.Seq.{drop-cons, take-all}
+use borrow.Author.Tests.{ne-eqb, eqb-true, eqb-false}
+use Rattle.picture.proofs.Dots.{split}
+use Rattle.panel.specs.declared.parse.Record.{Record}
+use Rattle.panel.specs.declared.parse.Record.the-variants.{Malformed}
+use Rattle.panel.specs.Text.{attached, fieldsOf, all, isNumber, isDecimal, isHex}
+use Rattle.panel.specs.Record.{letterOf, recordBy, recordOf}
+use Rattle.panel.specs.Found.{Found}
+use Rattle.panel.proofs.Numbers.{no-digits}
+use Rattle.panel.proofs.Pieces.{at-tabs, joins, found-cut, found-whole}
+
+module _ (l : ℕ) (f g : List ℕ) where
+  -- one field or more than three
+  other-count : (n : ℕ) → (n ≡ 2 → ⊥) → (n ≡ 3 → ⊥) → recordBy l n f g ≡ Malformed
+  unfolding recordBy
+  other-count n h k = simp (ne-eqb n 2 h, ne-eqb n 3 k, and-false)
+
+  -- two fields, and no letter for them
+  pub other-one : (l ≡ 82 → ⊥) → (l ≡ 84 → ⊥) → (l ≡ 86 → ⊥) → recordBy l 2 f g ≡ Malformed
+  unfolding recordBy
+  other-one r t v = simp (ne-eqb l 82 r, ne-eqb l 84 t, ne-eqb l 86 v, and-false)
+
+  -- three fields, and no letter for them
+  pub other-two : (l ≡ 87 → ⊥) → (l ≡ 76 → ⊥) → recordBy l 3 f g ≡ Malformed
+  unfolding recordBy
+  other-two w e = simp (ne-eqb l 87 w, ne-eqb l 76 e, and-false)
+
+  -- three fields, the last of them no number
+  bad-last : isNumber isHex 2 g ≡ false → isNumber isDecimal 3 g ≡ false → recordBy l 3 f g ≡ Malformed
+  unfolding recordBy
+  bad-last h d = simp (h, d, and-false)
+
+-- an empty field is no number
+empty-field : (l n : ℕ) (g : List ℕ) → recordBy l n [] g ≡ Malformed
+unfolding recordBy isNumber
+empty-field l n g = simp and-false
+
+-- what the fields mean together
+abbrev byFields : List (List ℕ) → Record
+byFields ls = recordBy (letterOf (getD ls 0 [])) (length ls) (getD ls 1 []) (getD ls 2 [])
+
+-- a first field of two bytes or more is no letter
+long-letter : (x y : ℕ) (ls : List (List ℕ)) → byFields (attached x (attached y ls)) ≡ Malformed
+unfolding letterOf attached recordBy
+long-letter x y [] = refl
+long-letter x y (l ∷ ls) = rw (ne-eqb (suc (suc (length l))) 1 (λ e. omega arith))
+
+module _ (x : ℕ) (bs : List ℕ) where
+  -- no tab behind the letter
+  no-tab : (y : ℕ) → (y ≡ 9 → ⊥) → recordOf (x ∷ y ∷ bs) ≡ Malformed
+  unfolding recordOf recordBy letterOf fieldsOf
+  no-tab y h =
+      ⊎-elim
+      (λ t. rw t)
+      (λ t.
+      let parts = joins at-tabs x (y ∷ bs) (eqb-false x 9 t) ∙ ap (attached x) (joins at-tabs y bs h) in
+      ap byFields parts ∙ long-letter x y (fieldsOf bs))
+      (split (eqb x 9))
+
+  -- a tab behind the letter
+  lettered : recordOf (x ∷ 9 ∷ bs) ≡ byFields ((x ∷ []) ∷ fieldsOf bs)
+  unfolding recordOf recordBy fieldsOf letterOf attached
+  lettered = ⊎-elim (λ t. rw (t, eqb-true x 9 t)) (λ t. rw t) (split (eqb x 9))
+
+-- a line of fewer than three bytes
+pub short : (line : List ℕ) → length line < 3 → recordOf line ≡ Malformed
+unfolding recordOf recordBy fieldsOf letterOf attached
+short [] h = refl
+short (x ∷ []) h = ⊎-elim (λ t. rw t) (λ t. rw t (other-count x [] [] 1 (λ e. omega arith) (λ e. omega arith))) (split (eqb x 9))
+short (x ∷ y ∷ []) h =
+    ⊎-elim
+    (λ t. rw (eqb-true y 9 t) (lettered x [] ∙ empty-field x 2 []))
+    (λ t. no-tab x [] y (eqb-false y 9 t))
+    (split (eqb y 9))
+short (x ∷ y ∷ z ∷ bs) h = absurd (omega arith)
+
+-- a byte put before them leaves no fewer fields
+no-fewer : (b : ℕ) (ls : List (List ℕ)) → length ls ≤ length (attached b ls)
+unfolding attached
+no-fewer b [] = omega arith
+no-fewer b (l ∷ ls) = omega arith
+
+-- a line has a field
+some-field : (t : List ℕ) → 0 < length (fieldsOf t)
+unfolding fieldsOf
+some-field [] = omega arith
+some-field (b ∷ bs) =
+    ⊎-elim (λ t. rw t (omega arith)) (λ t. rw t (omega (arith, some-field bs, no-fewer b (fieldsOf bs)))) (split (eqb b 9))
+
+-- a text is one field, or it has a tab, which is no digit
+tabs : (t : List ℕ)
+    → (fieldsOf t ≡ t ∷ []) ⊎ ((1 < length (fieldsOf t)) × ((test : ℕ → Bool) → test 9 ≡ false → all test t ≡ false))
+unfolding fieldsOf attached all
+tabs [] = inl refl
+tabs (b ∷ bs) =
+    ⊎-elim
+    (λ t. inr (rw t (omega (arith, some-field bs)), λ test z. rw (eqb-true b 9 t) (rw z)))
+    (λ t.
+    ⊎-elim
+    (λ (e : fieldsOf bs ≡ bs ∷ []). inl (rw t (rw e)))
+    (λ p. inr (rw t (omega (arith, p .0, no-fewer b (fieldsOf bs))), λ test z. rw (p .1 test z) (and-false (test b))))
+    (tabs bs))
+    (split (eqb b 9))
+
+-- a tab is no digit
+tab-no-hex : isHex 9 ≡ false
+unfolding isHex isDecimal
+tab-no-hex = refl
+
+tab-no-decimal : isDecimal 9 ≡ false
+unfolding isDecimal
+tab-no-decimal = refl
+
+-- whatever stands behind the second tab is taken for the last field: with a third tab it is no number
+last-field : (l : ℕ) (f t : List ℕ) → recordBy l (suc (suc (length (fieldsOf t)))) f (getD (fieldsOf t) 0 []) ≡ recordBy l 3 f t
+last-field l f t =
+    ⊎-elim
+    (λ e. rw e)
+    (λ p.
+    other-count l f (getD (fieldsOf t) 0 []) (suc (suc (length (fieldsOf t)))) (λ e. omega (arith, p .0)) (λ e. omega (arith, p .0))
+    ∙ sym (bad-last l f t (no-digits isHex 2 t (p .1 isHex tab-no-hex)) (no-digits isDecimal 3 t (p .1 isDecimal tab-no-decimal))))
+    (tabs t)
+
+-- a line of three bytes or more: its letter, what stands behind that, and the rest
+module _ (line : List ℕ) (long : 2 < length line) where
+  shape : line ≡ getD line 0 0 ∷ getD line 1 0 ∷ drop 2 line
+  shape = drop-cons line 0 0 (omega arith) ∙ ap (λ (l : List ℕ). getD line 0 0 ∷ l) (drop-cons line 1 0 (omega arith))
+
+  -- no tab behind the letter
+  pub untabbed : (getD line 1 0 ≡ 9 → ⊥) → recordOf line ≡ Malformed
+  untabbed h = ap recordOf shape ∙ no-tab (getD line 0 0) (drop 2 line) (getD line 1 0) h
+
+  -- a tab there: the fields by the search for the next
+  module _ {e : ℕ} (tab : getD line 1 0 ≡ 9) (f : Found line 2 9 e) where
+    behind : recordOf line ≡ byFields ((getD line 0 0 ∷ []) ∷ fieldsOf (drop 2 line))
+    behind = ap recordOf (shape ∙ ap (λ (y : ℕ). getD line 0 0 ∷ y ∷ drop 2 line) tab) ∙ lettered (getD line 0 0) (drop 2 line)
+
+    -- none: one field behind the letter
+    pub one-field : e ≡ length line → recordOf line ≡ recordBy (getD line 0 0) 2 (take (e - 2) (drop 2 line)) []
+    unfolding letterOf
+    one-field h = behind ∙ rw (found-whole at-tabs f (omega arith) long)
+
+    -- one: two fields, or more than any record has
+    pub two-fields : (e ≡ length line → ⊥)
+        → recordOf line ≡ recordBy (getD line 0 0) 3 (take (e - 2) (drop 2 line)) (take (length line - (e + 1)) (drop (e + 1) line))
+    unfolding letterOf
+    two-fields h =
+        let some : e < length line = omega (arith, f .high, h) in
+        let all = take-all (length line - (e + 1)) (drop (e + 1) line) (simp length-drop (omega arith)) in
+        behind ∙ rw (found-cut at-tabs f some, all) (last-field (getD line 0 0) (take (e - 2) (drop 2 line)) (drop (e + 1) line))

@@ -1,0 +1,10 @@
+use borrow.Author.Needs.{needs}
+use Rattle.panel.proofs.Writing.{wrote-one}
+use Rattle.panel.proofs.output.put.Statement.{statement}
+use Rattle.panel.proofs.output.put.Tie as tie
+
+returns : tie.Need-returns
+returns c = wrote-one (c .pre)
+
+pub put-spec : {M : Type 1} → statement M
+put-spec = tie.close (tie.spec (λ c. search needs) (λ c. search needs) (λ c. search needs) returns)

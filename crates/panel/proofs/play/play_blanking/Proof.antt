@@ -1,0 +1,23 @@
+use mathlib.Core.Path.{refl}
+use borrow.Author.Needs.{needs}
+use native.Mathlib.Omega.{arith}
+use Rattle.panel.proofs.Answers.{blanked-small}
+use Rattle.panel.proofs.play.play_blanking.Statement.{statement}
+use Rattle.panel.proofs.play.play_blanking.Tie as tie
+
+put-refusal-requires : tie.Need-put-refusal-requires
+put-refusal-requires c κs =
+    let call = c .before .before .before .before in
+    let s = call .before .before .before .before in
+    let a = s .args in
+    (s .pre, rw (call .set-vb .ensures .answers) (omega (arith, blanked-small (a .s) (a .level) (a .pic .now))))
+
+returns : tie.Need-returns
+returns c =
+    let put = c .before .before .put-refusal .ensures in
+    let call = c .before .before .before .before .before .before .before .set-vb .ensures in
+    rw (← call .answers) (refl, call .pictures, put .0, put .1)
+
+pub play-blanking-spec : {M : Type 1} → statement M
+play-blanking-spec =
+    tie.close (tie.spec (λ c κs. search needs) put-refusal-requires (λ c. search needs) (λ c. search needs) returns)

@@ -1,0 +1,21 @@
+use mathlib.Core.Path.{refl}
+use borrow.Author.Needs.{needs}
+use native.Mathlib.Omega.{arith}
+use Rattle.panel.proofs.Answers.{written-small}
+use Rattle.panel.proofs.play.play_write.Statement.{statement}
+use Rattle.panel.proofs.play.play_write.Tie as tie
+
+put-refusal-requires : tie.Need-put-refusal-requires
+put-refusal-requires c κs =
+    let call = c .before .before in
+    let s = call .before .before in
+    let a = s .args in
+    (s .pre, rw (call .write .ensures) (omega (arith, written-small (a .s) (a .address) (a .value))))
+
+returns : tie.Need-returns
+returns c =
+    let put = c .before .before .put-refusal .ensures in
+    rw (← c .before .before .before .before .before .write .ensures) (refl, put .0, put .1)
+
+pub play-write-spec : {M : Type 1} → statement M
+play-write-spec = tie.close (tie.spec (λ c κs. search needs) put-refusal-requires (λ c. search needs) returns)

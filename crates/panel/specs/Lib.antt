@@ -1,0 +1,7 @@
+pub mod Text
+pub mod Found
+pub mod Record
+pub mod Answer
+pub mod Panel
+pub mod Wrote
+pub mod Played

@@ -1,0 +1,171 @@
+// The records of a log: what a line means.
+ghost use mathlib.Core.Path.{_≡_};
+ghost use mathlib.Core.Bool.{cond};
+ghost use mathlib.Core.List.{[]};
+ghost use Prim.Native.Nat.{_+_, _≤_, _<_};
+ghost use lib.ListN.{length};
+ghost use Rattle.panel.specs.Text.{isDecimal, isHex, isNumber, decimalFrom, hexFrom};
+ghost use Rattle.panel.specs.Record.{recordBy, recordOf};
+ghost use Rattle.panel.specs.Found.{Found};
+use crate::digits::decimal_value;
+use crate::digits::hex_value;
+use crate::digits::is_decimal;
+use crate::digits::is_hex;
+
+pub enum Record {
+    Write { address: u8, value: u8 },
+    Read { address: u8 },
+    Cycles { n: u16 },
+    Blanking { level: bool },
+    Edge { h: u16, v: u16 },
+    Malformed,
+}
+
+// A field read as a number, where it is one.
+struct Number {
+    ok: bool,
+    n: u32,
+}
+
+// The place of the first byte b from a place on, or the end.
+pub fn find(s: &[u8], from: usize, b: u8) -> usize
+    requires { ⌜ from ≤ length (now s) ⌝ }
+    ensures { λ r. ⌜ Found (now (s .entry)) from b r ⌝ }
+{
+    let mut i = from;
+    while i < s.len() {
+        if s[i] == b {
+            return i;
+        }
+        i += 1;
+    }
+    i
+}
+
+// A field of one to `most` decimal digits; ok only where it is one.
+fn decimal_number(f: &[u8], most: usize) -> Number
+    requires { ⌜ most ≤ 5 ⌝ }
+    ensures { λ r. ⌜ (r .ok ≡ isNumber isDecimal most (now (f .entry))) × (r .n ≡ cond (r .ok) (decimalFrom 0 (now (f .entry))) 0) × (r .n < 100000) ⌝ }
+{
+    if f.len() == 0 {
+        return Number { ok: false, n: 0 };
+    }
+    if most < f.len() {
+        return Number { ok: false, n: 0 };
+    }
+    let mut n: u32 = 0;
+    let mut i = 0;
+    while i < f.len() {
+        let b = f[i];
+        if !is_decimal(b) {
+            return Number { ok: false, n: 0 };
+        }
+        n = n * 10 + decimal_value(b) as u32;
+        i += 1;
+    }
+    Number { ok: true, n: n }
+}
+
+// A field of one to `most` hex digits.
+fn hex_number(f: &[u8], most: usize) -> Number
+    requires { ⌜ most ≤ 2 ⌝ }
+    ensures { λ r. ⌜ (r .ok ≡ isNumber isHex most (now (f .entry))) × (r .n ≡ cond (r .ok) (hexFrom 0 (now (f .entry))) 0) × (r .n < 256) ⌝ }
+{
+    if f.len() == 0 {
+        return Number { ok: false, n: 0 };
+    }
+    if most < f.len() {
+        return Number { ok: false, n: 0 };
+    }
+    let mut n: u32 = 0;
+    let mut i = 0;
+    while i < f.len() {
+        let b = f[i];
+        if !is_hex(b) {
+            return Number { ok: false, n: 0 };
+        }
+        n = n * 16 + hex_value(b) as u32;
+        i += 1;
+    }
+    Number { ok: true, n: n }
+}
+
+// A record of one field behind its letter: R, T or V.
+fn parse_one(letter: u8, f: &[u8]) -> Record
+    ensures { λ r. ⌜ r ≡ recordBy letter 2 (now (f .entry)) [] ⌝ }
+{
+    if letter == 82 {
+        let a = hex_number(f, 1);
+        if a.ok {
+            return Record::Read {
+                address: (a.n % 256) as u8,
+            };
+        }
+        return Record::Malformed;
+    }
+    if letter == 84 {
+        let n = decimal_number(f, 5);
+        if n.ok & (n.n <= 65535) {
+            return Record::Cycles {
+                n: (n.n % 65536) as u16,
+            };
+        }
+        return Record::Malformed;
+    }
+    if letter == 86 {
+        let b = decimal_number(f, 1);
+        if b.ok & (b.n <= 1) {
+            return Record::Blanking { level: b.n == 1 };
+        }
+        return Record::Malformed;
+    }
+    Record::Malformed
+}
+
+// A record of two fields behind its letter: W or L. A third tab is no digit, so it makes the last field no number.
+fn parse_two(letter: u8, f: &[u8], g: &[u8]) -> Record
+    ensures { λ r. ⌜ r ≡ recordBy letter 3 (now (f .entry)) (now (g .entry)) ⌝ }
+{
+    if letter == 87 {
+        let a = hex_number(f, 1);
+        let v = hex_number(g, 2);
+        if a.ok & v.ok {
+            return Record::Write {
+                address: (a.n % 256) as u8,
+                value: (v.n % 256) as u8,
+            };
+        }
+        return Record::Malformed;
+    }
+    if letter == 76 {
+        let h = decimal_number(f, 3);
+        let v = decimal_number(g, 3);
+        if h.ok & v.ok & (h.n <= 255) & (v.n <= 255) {
+            return Record::Edge {
+                h: (h.n % 65536) as u16,
+                v: (v.n % 65536) as u16,
+            };
+        }
+        return Record::Malformed;
+    }
+    Record::Malformed
+}
+
+// What a line means.
+pub fn parse(line: &[u8]) -> Record
+    ensures { λ r. ⌜ r ≡ recordOf (now (line .entry)) ⌝ }
+{
+    if line.len() < 3 {
+        return Record::Malformed;
+    }
+    if line[1] != 9 {
+        return Record::Malformed;
+    }
+    let e = find(line, 2, 9);
+    let f = &line[2..e];
+    if e == line.len() {
+        return parse_one(line[0], f);
+    }
+    let after = e + 1;
+    parse_two(line[0], f, &line[after..])
+}
