@@ -17,7 +17,7 @@ pub const TILTED: u8 = 7;
 pub const PEN_RANGE: u8 = 8;
 
 /// 96 glyphs of five bytes.
-const TABLE_BYTES: usize = 480;
+pub const TABLE_BYTES: usize = 480;
 
 pub fn of_write(state: &State, address: u8, value: u8) -> u8 {
     let read_only = address == XLP || address == YLP;
