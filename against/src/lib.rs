@@ -15,6 +15,7 @@ pub mod ffi;
 pub mod flat;
 pub mod lent;
 pub mod library;
+pub mod log;
 pub mod model;
 pub mod random;
 pub mod scene;
