@@ -42,7 +42,8 @@ fn agrees(input: &[u8], name: &str) -> Vec<u8> {
 
 #[test]
 fn generated_logs() {
-    let seed = std::env::var("PANEL_SEED").map_or(SEED, |words| words.parse().expect("PANEL_SEED is a number"));
+    let seed =
+        std::env::var("PANEL_SEED").map_or(SEED, |words| words.parse().expect("PANEL_SEED is a number"));
     let mut random = Random::new(seed);
     let mut lit = 0;
     let mut malformed = 0;
