@@ -3,6 +3,7 @@
 
 use against::log::{log, noise};
 use against::random::Random;
+use std::fs::File;
 use std::io::Write;
 use std::path::Path;
 use std::process::{Command, Stdio};
@@ -10,22 +11,23 @@ use std::process::{Command, Stdio};
 const GENERATED: usize = 600;
 const SEED: u64 = 9366;
 
+fn program() -> Command {
+    let words = std::env::var("GDP_PANEL").expect("GDP_PANEL names the command that plays a log");
+    let mut words = words.split(' ');
+    let mut command = Command::new(words.next().unwrap());
+    command.args(words).stdin(Stdio::piped()).stdout(Stdio::piped()).stderr(Stdio::piped());
+    command
+}
+
 fn play(input: &[u8]) -> Vec<u8> {
-    let command = std::env::var("GDP_PANEL").expect("GDP_PANEL names the command that plays a log");
-    let mut words = command.split(' ');
-    let mut child = Command::new(words.next().unwrap())
-        .args(words)
-        .stdin(Stdio::piped())
-        .stdout(Stdio::piped())
-        .spawn()
-        .expect("the panel program starts");
+    let mut child = program().spawn().expect("the panel program starts");
     let mut feed = child.stdin.take().unwrap();
     let input = input.to_vec();
     // a program that does not read past the longest log closes its end early
     let feeder = std::thread::spawn(move || drop(feed.write_all(&input)));
     let end = child.wait_with_output().unwrap();
     feeder.join().unwrap();
-    assert!(end.status.success(), "{}", end.status);
+    assert_eq!((end.status.code(), String::from_utf8_lossy(&end.stderr)), (Some(0), "".into()));
     end.stdout
 }
 
@@ -86,4 +88,20 @@ fn stored_logs() {
         }
     }
     assert_eq!(compared, 13);
+}
+
+// A folder can be opened, and not read.
+#[test]
+fn a_log_that_cannot_be_read() {
+    let folder = File::open(env!("CARGO_MANIFEST_DIR")).unwrap();
+    let end = program().stdin(folder).output().unwrap();
+    assert_eq!(end.stdout, b"");
+    assert_eq!(end.stderr, b"panel: the log could not be read: Is a directory\n");
+}
+
+#[test]
+fn an_answer_that_cannot_be_written() {
+    let full = File::options().write(true).open("/dev/full").unwrap();
+    let end = program().stdin(Stdio::null()).stdout(full).output().unwrap();
+    assert_eq!(end.stderr, b"panel: the answer could not be written: No space left on device\n");
 }

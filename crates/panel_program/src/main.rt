@@ -16,12 +16,38 @@ fn output_buffer() -> [u8; 2031648] {
     [0u8; 2031648]
 }
 
+// Half a log must not pass for a whole one. A read that moves nothing is the log's end only where the next one says so
+// too: after a failed read that fails again or moves a byte.
+fn ended(got: usize) -> bool {
+    let mut more = [0u8; 1];
+    if got == 65537 {
+        return true;
+    }
+    if libc::read(STDIN_FILENO, &mut more) == 0 {
+        return true;
+    }
+    os::fail(b"panel: the log could not be read");
+    false
+}
+
+fn write_answer(answer: &[u8]) {
+    if !io::write_all(STDOUT_FILENO, answer) {
+        os::fail(b"panel: the answer could not be written");
+    }
+}
+
+fn play(input: &[u8]) {
+    let mut out = output_buffer();
+    let n = panel::log::play(input, &mut out);
+    if n <= out.len() {
+        write_answer(&out[..n]);
+    }
+}
+
 fn main() {
     let mut input = input_buffer();
     let got = io::read_full(STDIN_FILENO, &mut input);
-    let mut out = output_buffer();
-    let n = panel::log::play(&input[..got], &mut out);
-    if n <= out.len() {
-        io::write_all(STDOUT_FILENO, &out[..n]);
+    if ended(got) {
+        play(&input[..got]);
     }
 }

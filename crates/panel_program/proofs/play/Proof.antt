@@ -1,0 +1,17 @@
+use mathlib.Core.Path.{sym}
+use Prim.Native.Nat.{_≤_}
+use native.Mathlib.Omega.{arith}
+use lib.ListN.{length}
+use lib.Seq.{length-take-le}
+use borrow.Author.Needs.{needs}
+use Rattle.panel_program.proofs.play.Statement.{statement}
+use Rattle.panel_program.proofs.play.Tie as tie
+
+slice-aggregate-write-answer : tie.Need-slice-aggregate-write-answer
+slice-aggregate-write-answer c =
+    let p = c .before .before .before in
+    let fits : p .play .result ≤ length (p .play .last .1 .0) = omega (arith, c .before .if1 .taken, p .play .kept .1 .0) in
+    sym (length-take-le (p .play .result) (p .play .last .1 .0) fits)
+
+pub play-spec : {M : Type 1} → statement M
+play-spec = tie.close (tie.spec (λ c κs. search needs) (λ c. search needs) (λ c κs. search needs) (λ c. search needs) slice-aggregate-write-answer (λ c κs. search needs) (λ c. search needs) (λ c. search needs))
