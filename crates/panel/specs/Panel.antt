@@ -1,10 +1,11 @@
 -- The panel program: it plays a fresh EF9366 with a dark picture and an all-zero character table.
 -- Assumes nothing.
-use Prim.Native.Nat.{ℕ, zero, suc, _+_, _/_, _%_}
+use mathlib.Core.Path.{_≡_}
+use Prim.Native.Nat.{ℕ, zero, suc, _+_, _/_, _%_, _≤_, _<_}
 use mathlib.Core.Bool.{Bool, true, false, cond}
 use mathlib.Core.List.{List, [], _∷_, _++_}
 use lib.Dec.{ltb}
-use lib.ListN.{length, replicate}
+use lib.ListN.{length, replicate, take}
 use Rattle.picture.specs.Dot.{dotAt}
 use Rattle.parts.specs.declared.format.Format.the-variants.{Ef9366}
 use Rattle.gdp.specs.declared.state.Gdp.{Gdp}
@@ -68,3 +69,16 @@ panel input =
     cond (ltb 65536 (length input)) (lineE 0 21)
     (lineG
     ++ (answers 1 (fresh Ef9366) dark (linesOf input) ++ dotLines (shown (fresh Ef9366) dark (linesOf input)) 0 131072))
+
+-- the bytes of a lent buffer that hold every output: 7 for G, 11 for each line, 10 for each dot, room for a line in hand
+abbrev pub longest : ℕ
+longest = 2031648
+
+-- the form of the statement about the panel: of buffer before it makes buffer after, whose first r bytes are the output;
+-- a buffer that is shorter than the longest output is left alone, and r is 0
+pub record Gives (input before after : List ℕ) (r : ℕ) : Type 0 where
+  pub output : longest ≤ length before → take r after ≡ panel input
+  pub inside : r ≤ length after
+  pub size : length after ≡ length before
+  pub short : length before < longest → r ≡ 0
+  pub alone : length before < longest → after ≡ before

@@ -1,8 +1,6 @@
 // The whole panel: a log in, its answers and the screen's dots out.
 ghost use mathlib.Core.Path.{_≡_};
-ghost use Prim.Native.Nat.{_≤_};
-ghost use lib.ListN.{length, take};
-ghost use Rattle.panel.specs.Panel.{glyphs, dark, panel};
+ghost use Rattle.panel.specs.Panel.{glyphs, dark, Gives};
 use crate::dots::put_dots;
 use crate::output::put_e;
 use crate::output::put_g;
@@ -23,9 +21,10 @@ fn blank_table() -> [u8; 480]
     [0u8; 480]
 }
 
-// Writes the answer to a log at the buffer's start and says how long it is; 0 where the buffer is shorter than LONGEST.
+// Writes the answer to a log at the buffer's start and says how long it is. A buffer shorter than LONGEST is left alone,
+// and the answer is 0.
 pub fn play(input: &[u8], out: &mut [u8]) -> usize
-    ensures { λ r. ⌜ (2031648 ≤ length (now (out .entry)) → take r (now (out .exit)) ≡ panel (now (input .entry))) ⌝ }
+    ensures { λ r. ⌜ Gives (now (input .entry)) (now (out .entry)) (now (out .exit)) r ⌝ }
 {
     if out.len() < LONGEST {
         return 0;

@@ -39,9 +39,7 @@ fn write_answer(answer: &[u8]) {
 fn play(input: &[u8]) {
     let mut out = output_buffer();
     let n = panel::log::play(input, &mut out);
-    if n <= out.len() {
-        write_answer(&out[..n]);
-    }
+    write_answer(&out[..n]);
 }
 
 fn main() {

@@ -1,7 +1,6 @@
+-- `panel_program::play` only slices what the library wrote: its length lies inside the buffer.
+-- Assumes nothing.
 use mathlib.Core.Path.{sym}
-use Prim.Native.Nat.{_≤_}
-use native.Mathlib.Omega.{arith}
-use lib.ListN.{length}
 use lib.Seq.{length-take-le}
 use borrow.Author.Needs.{needs}
 use Rattle.panel_program.proofs.play.Statement.{statement}
@@ -9,9 +8,8 @@ use Rattle.panel_program.proofs.play.Tie as tie
 
 slice-aggregate-write-answer : tie.Need-slice-aggregate-write-answer
 slice-aggregate-write-answer c =
-    let p = c .before .before .before in
-    let fits : p .play .result ≤ length (p .play .last .1 .0) = omega (arith, c .before .if1 .taken, p .play .kept .1 .0) in
-    sym (length-take-le (p .play .result) (p .play .last .1 .0) fits)
+    let p = c .before .before in
+    sym (length-take-le (p .play .result) (p .play .last .1 .0) (p .play .ensures .inside))
 
 pub play-spec : {M : Type 1} → statement M
-play-spec = tie.close (tie.spec (λ c κs. search needs) (λ c. search needs) (λ c κs. search needs) (λ c. search needs) slice-aggregate-write-answer (λ c κs. search needs) (λ c. search needs) (λ c. search needs))
+play-spec = tie.close (tie.spec (λ c κs. search needs) (λ c. search needs) (λ c κs. search needs) (λ c. search needs) slice-aggregate-write-answer (λ c κs. search needs) (λ c. search needs))
