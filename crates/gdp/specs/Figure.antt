@@ -15,6 +15,7 @@ use Rattle.parts.specs.declared.command.Kind.{Kind}
 use Rattle.parts.specs.declared.command.Kind.the-variants.{NoCycle, OneCycle, Vector, Character, Block}
 use Rattle.parts.specs.Command.{kind}
 use Rattle.gdp.specs.declared.state.Regs.{Regs}
+use Rattle.gdp.specs.State.{regs}
 
 -- the vector of a code by DELTAX and DELTAY; the character and the block of CSIZE
 unfoldable pub line : Regs → ℕ → Line
@@ -43,6 +44,10 @@ cyclesOf r c NoCycle = 0
 
 unfoldable pub cycles : Regs → ℕ → ℕ
 cycles r c = cyclesOf r c (kind c)
+
+-- CSIZE and the deltas are all that they depend on
+unfoldable pub cyclesBy : ℕ → ℕ → ℕ → ℕ → ℕ
+cyclesBy csize dx dy c = cycles (regs 0 0 csize dx dy 0 0 0 0) c
 
 -- from the command's start to the place of cycle i, as what is added modulo 4,096
 unfoldable pub wayX : Regs → ℕ → ℕ → Kind → ℕ

@@ -1,7 +1,7 @@
 // Refusal 1, which every call gives: states that the processor cannot be in.
 ghost use mathlib.Core.Path.{_≡_};
 ghost use Prim.Native.Nat.{_≤_};
-ghost use Rattle.gdp.specs.Figure.{cycles, tilted};
+ghost use Rattle.gdp.specs.Figure.{cycles, cyclesBy, tilted};
 ghost use Rattle.gdp.specs.Refusals.{badRegs, badWork, bad, busy};
 use crate::state::Gdp;
 use motion::character::block_of;
@@ -15,29 +15,36 @@ use parts::sequence::is_pen_open;
 use parts::sequence::is_ready;
 use picture::dot::bit_at;
 
+// The cycles of a command by CSIZE and the deltas; 0 for one that takes no write cycle. Handed three numbers and not the
+// state, it costs no copy of it, and asked twice the compiler finds the answer once.
+fn cycles_by(code: u8, csize: u8, deltax: u8, deltay: u8) -> u16
+    ensures { λ r. ⌜ (r ≡ cyclesBy csize deltax deltay code) × (r ≤ 12288) ⌝ }
+{
+    let k = kind_of(code);
+    match k {
+        Kind::NoCycle => 0,
+        Kind::OneCycle => 1,
+        Kind::Vector => {
+            let l = line_of(code, deltax, deltay);
+            l.long + 1
+        }
+        Kind::Character => {
+            let b = character_of(csize);
+            b.columns * b.rows
+        }
+        Kind::Block => {
+            let b = block_of(csize);
+            b.columns * b.rows
+        }
+    }
+}
+
 impl Gdp {
-    // The cycles of a command by the present registers; 0 for one that takes no write cycle.
+    // The cycles of a command by the present registers.
     pub fn cycles_of(self, code: u8) -> u16
         ensures { λ r. ⌜ (r ≡ cycles (self .regs) code) × (r ≤ 12288) ⌝ }
     {
-        let r = self.regs;
-        let k = kind_of(code);
-        match k {
-            Kind::NoCycle => 0,
-            Kind::OneCycle => 1,
-            Kind::Vector => {
-                let l = line_of(code, r.deltax, r.deltay);
-                l.long + 1
-            }
-            Kind::Character => {
-                let b = character_of(r.csize);
-                b.columns * b.rows
-            }
-            Kind::Block => {
-                let b = block_of(r.csize);
-                b.columns * b.rows
-            }
-        }
+        cycles_by(code, self.regs.csize, self.regs.deltax, self.regs.deltay)
     }
 
     pub fn is_tilted(self) -> bool

@@ -1,8 +1,7 @@
 // Reading a register.
 ghost use mathlib.Core.Path.{_≡_};
-ghost use mathlib.Core.Bool.{false};
 ghost use Rattle.gdp.specs.Registers.{registerAt, afterRead};
-ghost use Rattle.gdp.specs.Refusals.{bad, noAddress, readNumber};
+ghost use Rattle.gdp.specs.Refusals.{noAddress, readNumber};
 ghost use Rattle.gdp.specs.Calls.{readOut};
 use crate::state::Answer;
 use crate::state::Flags;
@@ -20,8 +19,7 @@ pub fn is_no_address(address: u8) -> bool
 }
 
 impl Gdp {
-    fn register_at(self, address: u8) -> u8
-        requires { ⌜ bad self ≡ false ⌝ }
+    pub fn register_at(self, address: u8) -> u8
         ensures { λ r. ⌜ r ≡ registerAt self address ⌝ }
     {
         let r = self.regs;
@@ -62,7 +60,7 @@ impl Gdp {
         }
     }
 
-    fn read_number(self, address: u8) -> u8
+    pub fn read_number(self, address: u8) -> u8
         ensures { λ r. ⌜ r ≡ readNumber self address ⌝ }
     {
         lowest_of(

@@ -1,10 +1,8 @@
 // Writing a register: address 0 is CMD.
 ghost use mathlib.Core.Path.{_≡_};
-ghost use mathlib.Core.Bool.{false};
-ghost use Prim.Native.Nat.{_≤_};
 ghost use Rattle.gdp.specs.Registers.{stored};
 ghost use Rattle.gdp.specs.Commands.{afterWrite};
-ghost use Rattle.gdp.specs.Refusals.{bad, tiltedCharacter, writeNumber};
+ghost use Rattle.gdp.specs.Refusals.{tiltedCharacter, writeNumber};
 ghost use Rattle.gdp.specs.Calls.{written};
 use crate::read::is_no_address;
 use crate::state::Answer;
@@ -18,8 +16,7 @@ use parts::refusal::lowest_of;
 
 impl Regs {
     // A byte stored at an address, unused bits dropped.
-    fn stored(mut self, address: u8, value: u8) -> Regs
-        requires { ⌜ (self .x ≤ 4095) × (self .y ≤ 4095) ⌝ }
+    pub fn stored(mut self, address: u8, value: u8) -> Regs
         ensures { λ r. ⌜ r ≡ stored self address value ⌝ }
     {
         match address {
@@ -72,7 +69,7 @@ impl Gdp {
         (address == 0x0) & is_lettering(k) & self.is_tilted()
     }
 
-    fn write_number(self, address: u8, value: u8) -> u8
+    pub fn write_number(self, address: u8, value: u8) -> u8
         ensures { λ r. ⌜ r ≡ writeNumber self address value ⌝ }
     {
         let pen = (address == 0xC) | (address == 0xD);
@@ -90,7 +87,6 @@ impl Gdp {
     }
 
     fn after_write(mut self, address: u8, value: u8) -> Gdp
-        requires { ⌜ bad self ≡ false ⌝ }
         ensures { λ r. ⌜ r ≡ afterWrite self address value ⌝ }
     {
         if address == 0x0 {

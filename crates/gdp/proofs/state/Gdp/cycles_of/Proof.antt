@@ -1,70 +1,30 @@
--- `gdp::state::Gdp::cycles_of` meets its contract: each arm counts the cycles of its kind, 12,288 at the most.
+-- `gdp::state::Gdp::cycles_of` meets its contract: the cycles depend on CSIZE and the deltas alone.
 -- Assumes nothing.
-use mathlib.Core.Path.{_≡_, sym, ap, _∙_}
+use mathlib.Core.Path.{_≡_, refl, _∙_}
 use Prim.Native.Nat.{ℕ}
-use native.Mathlib.Omega.{arith}
-use borrow.Author.Needs.{needs}
-use Rattle.motion.specs.Vector.{vectorCycles}
-use Rattle.motion.specs.Character.{bodyCycles}
-use Rattle.motion.proofs.Characters.{character-most, block-most}
 use Rattle.parts.specs.declared.command.Kind.{Kind}
+use Rattle.parts.specs.declared.command.Kind.the-variants.{NoCycle, OneCycle, Vector, Character, Block}
 use Rattle.parts.specs.Command.{kind}
 use Rattle.gdp.specs.declared.state.Regs.{Regs}
-use Rattle.gdp.specs.Figure.{line, character, block, cyclesOf, cycles}
+use Rattle.gdp.specs.State.{regs}
+use Rattle.gdp.specs.Figure.{line, character, block, cyclesOf, cycles, cyclesBy}
 use Rattle.gdp.proofs.state.Gdp.cycles_of.Statement.{statement}
 use Rattle.gdp.proofs.state.Gdp.cycles_of.Tie as tie
 
--- the code's kind was found to be l
-counted : (r : Regs) (c : ℕ) {k l : Kind} → k ≡ kind c → k ≡ l → cyclesOf r c l ≡ cycles r c
-unfolding cycles
-counted r c p q = ap (cyclesOf r c) (sym q ∙ p)
-
-mul-result : tie.Need-mul-result
-unfolding bodyCycles
-mul-result c =
-    let csize = c .before .before .before .before .before .before .args .self .regs .csize in
-    omega (arith, ap bodyCycles (c .before .character-of .ensures .0), character-most csize (omega arith))
-
-mul-result-2 : tie.Need-mul-result-2
-unfolding bodyCycles
-mul-result-2 c =
-    let csize = c .before .before .before .before .before .before .args .self .regs .csize in
-    omega (arith, ap bodyCycles (c .before .block-of .ensures .0), block-most csize (omega arith))
+alone : (r : Regs) (c : ℕ) (k : Kind) → cyclesOf (regs 0 0 (r .csize) (r .deltax) (r .deltay) 0 0 0 0) c k ≡ cyclesOf r c k
+unfolding cyclesOf line character block
+alone r c NoCycle = refl
+alone r c OneCycle = refl
+alone r c Vector = refl
+alone r c Character = refl
+alone r c Block = refl
 
 returns : tie.Need-returns
-unfolding cyclesOf
-returns c = (counted _ _ (c .before .before .kind-of .ensures) (c .enum-told .given .1), omega arith)
-
-returns-2 : tie.Need-returns-2
-unfolding cyclesOf
-returns-2 c = (counted _ _ (c .before .before .kind-of .ensures) (c .enum-told2 .given .1), omega arith)
-
-returns-3 : tie.Need-returns-3
-unfolding cyclesOf line vectorCycles
-returns-3 c =
-    let at = c .before .before in
-    let e = ap vectorCycles (c .before .line-of .ensures .0) in
-    (e ∙ counted _ _ (at .before .before .kind-of .ensures) (at .enum-told3 .given .1), search needs)
-
-returns-4 : tie.Need-returns-4
-unfolding cyclesOf character bodyCycles
-returns-4 c =
-    let most = character-most (c .before .before .before .before .before .before .args .self .regs .csize) (omega arith) in
-    let e = ap bodyCycles (c .before .character-of .ensures .0) in
-    let at = c .before .before in
-    (e ∙ counted _ _ (at .before .before .kind-of .ensures) (at .enum-told4 .given .1), omega (arith, e, most))
-
-returns-5 : tie.Need-returns-5
-unfolding cyclesOf block bodyCycles
-returns-5 c =
-    let most = block-most (c .before .before .before .before .before .before .args .self .regs .csize) (omega arith) in
-    let e = ap bodyCycles (c .before .block-of .ensures .0) in
-    let at = c .before .before in
-    (e ∙ counted _ _ (at .before .before .kind-of .ensures) (at .enum-told5 .given .1), omega (arith, e, most))
+unfolding cyclesBy cycles
+returns c =
+    let a = c .before .args in
+    let e = c .cycles-by .ensures in
+    (e .0 ∙ alone (a .self .regs) (a .code) (kind (a .code)), e .1)
 
 pub cycles-of-spec : {M : Type 1} → statement M
-cycles-of-spec =
-    tie.close
-    (tie.spec (λ c κs. tt) (λ c. search needs) (λ c. search needs) (λ c. search needs) (λ c κs. tt) (λ c. search needs)
-    (λ c. search needs) (λ c κs. tt) mul-result (λ c. search needs) (λ c κs. tt) mul-result-2 returns returns-2 returns-3
-    returns-4 returns-5)
+cycles-of-spec = tie.close (tie.spec (λ c κs. tt) returns)
