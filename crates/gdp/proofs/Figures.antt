@@ -7,7 +7,8 @@ use Rattle.parts.specs.declared.command.Kind.{Kind}
 use Rattle.parts.specs.declared.command.Kind.the-variants.{NoCycle, OneCycle, Vector, Character, Block}
 use Rattle.gdp.specs.declared.state.Regs.{Regs}
 use Rattle.gdp.specs.State.{regs, withPlace}
-use Rattle.gdp.specs.Figure.{line, character, block, turned, cyclesOf, wayX, wayY, endX, endY, writes}
+use Rattle.parts.specs.Command.{kind}
+use Rattle.gdp.specs.Figure.{line, character, block, turned, cyclesOf, cycles, cyclesBy, wayX, wayY, endX, endY, writes}
 
 -- the cycles of a command depend neither on X and Y nor on XLP and YLP
 pub cycles-kept : (r : Regs) (x y xl yl c : ℕ) (k : Kind)
@@ -18,6 +19,19 @@ cycles-kept r x y xl yl c OneCycle = refl
 cycles-kept r x y xl yl c Vector = refl
 cycles-kept r x y xl yl c Character = refl
 cycles-kept r x y xl yl c Block = refl
+
+-- they are counted from CSIZE and the deltas alone
+from-three : (r : Regs) (c : ℕ) (k : Kind) → cyclesOf (regs 0 0 (r .csize) (r .deltax) (r .deltay) 0 0 0 0) c k ≡ cyclesOf r c k
+unfolding cyclesOf line character block
+from-three r c NoCycle = refl
+from-three r c OneCycle = refl
+from-three r c Vector = refl
+from-three r c Character = refl
+from-three r c Block = refl
+
+pub cycles-by : (r : Regs) (c : ℕ) → cyclesBy (r .csize) (r .deltax) (r .deltay) c ≡ cycles r c
+unfolding cyclesBy cycles
+cycles-by r c = from-three r c (kind c)
 
 -- nor do its way, its end and what it writes depend on X and Y
 module _ (x y : ℕ) (r : Regs) (c : ℕ) where

@@ -1,7 +1,7 @@
 // Refusal 1, which every call gives: states that the processor cannot be in.
 ghost use mathlib.Core.Path.{_≡_};
 ghost use Prim.Native.Nat.{_≤_};
-ghost use Rattle.gdp.specs.Figure.{cycles, cyclesBy, tilted};
+ghost use Rattle.gdp.specs.Figure.{cyclesBy, tilted};
 ghost use Rattle.gdp.specs.Refusals.{badRegs, badWork, bad, busy};
 use crate::state::Gdp;
 use motion::character::block_of;
@@ -17,7 +17,7 @@ use picture::dot::bit_at;
 
 // The cycles of a command by CSIZE and the deltas; 0 for one that takes no write cycle. Handed three numbers and not the
 // state, it costs no copy of it, and asked twice the compiler finds the answer once.
-fn cycles_by(code: u8, csize: u8, deltax: u8, deltay: u8) -> u16
+pub fn cycles_by(code: u8, csize: u8, deltax: u8, deltay: u8) -> u16
     ensures { λ r. ⌜ (r ≡ cyclesBy csize deltax deltay code) × (r ≤ 12288) ⌝ }
 {
     let k = kind_of(code);
@@ -40,13 +40,6 @@ fn cycles_by(code: u8, csize: u8, deltax: u8, deltay: u8) -> u16
 }
 
 impl Gdp {
-    // The cycles of a command by the present registers.
-    pub fn cycles_of(self, code: u8) -> u16
-        ensures { λ r. ⌜ (r ≡ cycles (self .regs) code) × (r ≤ 12288) ⌝ }
-    {
-        cycles_by(code, self.regs.csize, self.regs.deltax, self.regs.deltay)
-    }
-
     pub fn is_tilted(self) -> bool
         ensures { λ r. ⌜ r ≡ tilted (self .regs) ⌝ }
     {
@@ -74,7 +67,8 @@ impl Gdp {
         match w {
             Work::Idle => false,
             Work::Steps { code, done } => {
-                let over = self.cycles_of(code) <= done;
+                let r = self.regs;
+                let over = cycles_by(code, r.csize, r.deltax, r.deltay) <= done;
                 let k = kind_of(code);
                 over | (is_lettering(k) & self.is_tilted())
             }

@@ -13,6 +13,7 @@ ghost use Rattle.gdp.specs.Figure.{turned};
 ghost use Rattle.gdp.specs.Refusals.{bad};
 ghost use Rattle.gdp.specs.Calls.{granted, Leaves};
 ghost use Rattle.gdp.specs.Runs.{tipOf, runOf, Fits, Ran, taken};
+use crate::check::cycles_by;
 use crate::state::Answer;
 use crate::state::Gdp;
 use crate::state::accepted;
@@ -150,7 +151,8 @@ impl Gdp {
         requires { ⌜ (length (now pic) ≡ bytes (self .format)) × (length (now table) ≡ 480) ⌝ }
         ensures { λ r. ⌜ Leaves (taken self n (now (pic .entry)) (now (table .entry))) r (now (pic .exit)) ⌝ }
     {
-        let left = self.cycles_of(code) - done;
+        let r = self.regs;
+        let left = cycles_by(code, r.csize, r.deltax, r.deltay) - done;
         let used = least(n, left);
         let s = self.draw_run(code, done, used, pic, table);
         let mut next = self;

@@ -1,5 +1,7 @@
+use mathlib.Core.Path.{_∙_}
 use borrow.Author.Needs.{needs}
 use Rattle.gdp.specs.Refusals.{badWork}
+use Rattle.gdp.proofs.Figures.{cycles-by}
 use Rattle.gdp.proofs.state.Gdp.is_bad_work.Statement.{statement}
 use Rattle.gdp.proofs.state.Gdp.is_bad_work.Tie as tie
 
@@ -15,8 +17,8 @@ returns-2 c =
       c .is-tilted .ensures,
       c .before .is-lettering .ensures,
       c .before .before .kind-of .ensures,
-      at .cycles-of .ensures .0,
-      at .before .before .w .given .1,
+      at .cycles-by .ensures .0 ∙ cycles-by (at .before .before .before .before .before .args .self .regs) _,
+      at .before .before .before .w .given .1,
     )
 
 returns-3 : tie.Need-returns-3
