@@ -1,34 +1,35 @@
 -- A grant as the code goes about it: what a running command can be granted, and that the run's place and picture are the
 -- definition's state and picture.
 -- Assumes nothing.
-use mathlib.Core.Path.{_≡_, sym, ap, _∙_, subst}
-use mathlib.Core.Bool.{false, not}
+use mathlib.Core.Path.{_≡_, refl, sym, ap, _∙_, subst}
+use mathlib.Core.Bool.{Bool, true, false, not, _||_}
 use mathlib.Core.List.{List}
 use Prim.Native.Nat.{ℕ, _+_, _-_, _≤_, _<_, min}
 use native.Mathlib.Omega.{arith}
 use native.Mathlib.Nat.{min-zero}
-use lib.Dec.{eqb}
+use lib.Dec.{eqb, ltb, leb}
 use lib.ListN.{length}
-use borrow.Author.Tests.{lt-ltb, le-ltb, eqb-true, not-false}
+use borrow.Author.Tests.{lt-ltb, le-ltb, leb-true, leb-false, eqb-true, eqb-false, not-false}
 use Rattle.picture.specs.Dot.{paint}
 use Rattle.parts.specs.declared.sequence.Work.{Work}
-use Rattle.parts.specs.declared.sequence.Work.the-variants.{Idle, Steps}
+use Rattle.parts.specs.declared.sequence.Work.the-variants.{Steps}
+use Rattle.motion.specs.declared.vector.Line.{Line}
+use Rattle.motion.specs.Vector.{vectorCycles, Lengths}
+use Rattle.parts.specs.declared.command.Kind.the-variants.{Vector}
+use Rattle.parts.specs.Command.{kind}
 use Rattle.parts.specs.Format.{bytes}
 use Rattle.drawing.specs.declared.tip.Spot.{Spot}
+use Rattle.gdp.specs.declared.state.Regs.{Regs}
 use Rattle.gdp.specs.declared.state.Gdp.{Gdp}
-use Rattle.gdp.specs.State.{withPlace, withRegs, withWork, readyRaises}
-use Rattle.gdp.specs.Figure.{cycles}
+use Rattle.gdp.specs.Figure.{line, cyclesOf, cycles}
 use Rattle.gdp.specs.Cycles.{lights, left, used, dots, dotsFrom, standing, ended, after}
-use Rattle.gdp.specs.Refusals.{bad, wrongPicture, wrongTable, grantNumber}
+use Rattle.gdp.specs.Refusals.{badWork, bad, lineBad, wrongPicture, wrongTable, grantNumber}
+use Rattle.gdp.specs.declared.state.Answer.{Answer}
 use Rattle.gdp.specs.Calls.{Leaves}
 use Rattle.gdp.specs.Good.{GoodWork}
-use Rattle.gdp.specs.Runs.{restX, restY, taken, Fits, Ran}
-use Rattle.gdp.proofs.GoodParts.{good-from, lowest-zero}
+use Rattle.gdp.specs.Runs.{restX, restY, endsAt, standsAt, restsAt, taken, Fits, Ran}
+use Rattle.gdp.proofs.GoodParts.{cond-case, good-from, lowest-zero}
 use Rattle.gdp.proofs.Split.{Still, after-steps, dots-steps, left-steps}
-
--- the place after a run, put into the registers
-abbrev pub moved : Gdp → Spot → Gdp
-moved s spot = withRegs (withPlace (spot .x) (spot .y) (s .regs)) s
 
 module _ (s : Gdp) (c p n : ℕ) (runs : s .work ≡ Steps c p) where
   -- a command that runs in a good state has a cycle left
@@ -57,8 +58,8 @@ module _ (s : Gdp) (c p n : ℕ) (runs : s .work ≡ Steps c p) where
           ∙ ap (λ (ds : List ℕ). paint (lights (s .regs)) ds pic) (ap (dotsFrom (s .format) (s .regs) tab c p p) is ∙ sym (dots-steps s tab c p n runs))
 
       -- with the last cycle the command is over and ready rises
-      pub step-ends : k ≡ cycles (s .regs) c - p
-          → Leaves (taken s n pic tab) (record { number = 0; value = k; state = readyRaises (withWork Idle (moved s spot)) }) after-pic
+      step-ends : k ≡ cycles (s .regs) c - p
+          → Leaves (taken s n pic tab) (endsAt s k spot) after-pic
       unfolding taken ended restX restY
       step-ends e =
           let l = some-left good in
@@ -72,8 +73,8 @@ module _ (s : Gdp) (c p n : ℕ) (runs : s .work ≡ Steps c p) where
           }
 
       -- before it X and Y stand on the place of the next cycle
-      pub step-stands : (k ≡ cycles (s .regs) c - p → ⊥)
-          → Leaves (taken s n pic tab) (record { number = 0; value = k; state = withWork (Steps c (p + k)) (moved s spot) }) after-pic
+      step-stands : (k ≡ cycles (s .regs) c - p → ⊥)
+          → Leaves (taken s n pic tab) (standsAt s c p k spot) after-pic
       unfolding taken standing restX restY
       step-stands ne =
           let l = some-left good in
@@ -85,6 +86,13 @@ module _ (s : Gdp) (c p n : ℕ) (runs : s .work ≡ Steps c p) where
                 rw (← count, on, ran .x, ran .y, all, lt-ltb (p + n) (cycles (s .regs) c) short);
             pictures = painted;
           }
+
+      -- so what the code answers is the definition's
+      pub step-rests : {m : ℕ} → m ≡ cycles (s .regs) c - p → Leaves (taken s n pic tab) (restsAt s c p k m spot) after-pic
+      unfolding restsAt
+      step-rests {m} e =
+          cond-case (λ (r : Answer). Leaves (taken s n pic tab) r after-pic) (eqb k m)
+          (λ h. step-ends (eqb-true k m h ∙ e)) (λ h. step-stands (λ same. eqb-false k m h (same ∙ sym e)))
 
 -- an idle or clearing processor uses no cycle
 pub still-taken : (s : Gdp) (n : ℕ) (pic tab : List ℕ) → Still s → Leaves (taken s n pic tab) (record { number = 0; value = 0; state = s }) pic
@@ -98,3 +106,45 @@ unfolding grantNumber wrongPicture wrongTable
 grant-accepted s pic tab z =
     let f = lowest-zero (bad s) (not (eqb (length pic) (bytes (s .format)))) (not (eqb (length tab) 480)) false false false false false z in
     (f .0, eqb-true _ _ (not-false _ (f .1)), eqb-true _ _ (not-false _ (f .2)))
+
+-- where a vector runs, its line's length tells whether its cycles are used up
+same : (a b : Bool) → (a ≡ true → b ≡ true) → (a ≡ false → b ≡ false) → a ≡ b
+same true b h k = sym (h refl)
+same false b h k = sym (k refl)
+
+one-more : (a b : ℕ) → leb (a + 1) b ≡ ltb a b
+one-more a b =
+    same (leb (a + 1) b) (ltb a b)
+    (λ h. lt-ltb a b (omega (arith, leb-true (a + 1) b h)))
+    (λ h. le-ltb a b (omega (arith, leb-false (a + 1) b h)))
+
+or-none : (a : Bool) → (a || false) ≡ a
+or-none true = refl
+or-none false = refl
+
+bad-work : (r : Regs) (vb : Bool) (c p : ℕ) → kind c ≡ Vector → badWork r vb (Steps c p) ≡ ltb (line r c .long) p
+unfolding badWork cycles cyclesOf vectorCycles
+bad-work r vb c p e = rw (e, one-more (line r c .long) p, or-none (ltb (line r c .long) p))
+
+pub line-bad : (s : Gdp) (c p : ℕ) → s .work ≡ Steps c p → kind c ≡ Vector → bad s ≡ lineBad s (ltb (line (s .regs) c .long) p)
+unfolding bad lineBad
+line-bad s c p runs e = rw (runs, bad-work (s .regs) (s .vb) c p e)
+
+abbrev pub long : Line → ℕ
+long l = l .long
+
+pub line-cycles : (r : Regs) (c : ℕ) → kind c ≡ Vector → cycles r c ≡ line r c .long + 1
+unfolding cycles cyclesOf vectorCycles
+line-cycles r c e = rw e
+
+-- with the line l of a running vector at hand
+module _ (s : Gdp) (c p : ℕ) where
+  pub line-left : {l : Line} → kind c ≡ Vector → l ≡ line (s .regs) c → l .long + 1 - p ≡ cycles (s .regs) c - p
+  line-left e el = ap (λ (n : ℕ). n - p) (ap (λ (n : ℕ). n + 1) (ap long el) ∙ sym (line-cycles (s .regs) c e))
+
+  pub line-granted : (n : ℕ) → s .work ≡ Steps c p → (pic tab : List ℕ) → bad s ≡ false → kind c ≡ Vector
+      → {l : Line} → l ≡ line (s .regs) c → Lengths l → length pic ≡ bytes (s .format) → length tab ≡ 480
+      → {k : ℕ} → k ≡ min n (l .long + 1 - p) → Fits (s .format) (s .regs) c p k pic tab
+  line-granted n runs pic tab good e {l} el short hp ht is =
+      rw (is, line-left e el)
+      (grant-fits s c p n runs pic tab good (omega (arith, line-cycles (s .regs) c e, ap long el, short .small)) hp ht)

@@ -2,9 +2,9 @@
 -- Assumes nothing.
 use mathlib.Core.Path.{_≡_}
 use Prim.Native.Nat.{ℕ, _+_, _≤_, _<_}
-use mathlib.Core.Bool.{cond}
+use mathlib.Core.Bool.{Bool, true, false, cond}
 use mathlib.Core.List.{List}
-use lib.Dec.{ltb}
+use lib.Dec.{eqb, ltb}
 use lib.ListN.{length}
 use Rattle.picture.specs.Dot.{paint}
 use Rattle.motion.specs.Position.{ahead}
@@ -19,6 +19,12 @@ use Rattle.gdp.specs.declared.state.Gdp.{Gdp}
 use Rattle.gdp.specs.Figure.{cycles, endX, endY}
 use Rattle.gdp.specs.Cycles.{startX, startY, placeX, placeY, penDown, lights, cyclic, dotsFrom, used, dots, after}
 use Rattle.gdp.specs.Calls.{Outcome}
+use Rattle.gdp.specs.State.{withPlace, withRegs, withWork, readyRaises}
+use Rattle.gdp.specs.declared.state.Answer.{Answer}
+use Rattle.parts.specs.declared.sequence.Work.{Work}
+use Rattle.parts.specs.declared.sequence.Work.the-variants.{Idle, Steps}
+use Rattle.parts.specs.declared.command.Kind.{Kind}
+use Rattle.parts.specs.declared.command.Kind.the-variants.{NoCycle, OneCycle, Vector, Character, Block}
 
 -- the tip of the pen or eraser over the format's window
 unfoldable pub tipOf : Format → Regs → Tip
@@ -34,6 +40,32 @@ restX r c p i = cond (ltb i (cycles r c)) (placeX r c p i) (ahead (startX r c p)
 
 unfoldable pub restY : Regs → ℕ → ℕ → ℕ → ℕ
 restY r c p i = cond (ltb i (cycles r c)) (placeY r c p i) (ahead (startY r c p) (endY r c (kind c)))
+
+-- a vector; and that none runs
+abbrev pub isLine : Kind → Bool
+isLine NoCycle = false
+isLine OneCycle = false
+isLine Vector = true
+isLine Character = false
+isLine Block = false
+
+abbrev pub NoLine : Work → Type 0
+NoLine w = (c p : ℕ) → w ≡ Steps c p → kind c ≡ Vector → ⊥
+
+-- the place after a run, put into the registers
+abbrev pub moved : Gdp → Spot → Gdp
+moved s spot = withRegs (withPlace (spot .x) (spot .y) (s .regs)) s
+
+-- the answer after k cycles of code c from cycle p on: with the last one the command is over and ready rises
+abbrev pub endsAt : Gdp → ℕ → Spot → Answer
+endsAt s k spot = record { number = 0; value = k; state = readyRaises (withWork Idle (moved s spot)) }
+
+abbrev pub standsAt : Gdp → ℕ → ℕ → ℕ → Spot → Answer
+standsAt s c p k spot = record { number = 0; value = k; state = withWork (Steps c (p + k)) (moved s spot) }
+
+-- m were left before them
+unfoldable pub restsAt : Gdp → ℕ → ℕ → ℕ → ℕ → Spot → Answer
+restsAt s c p k m spot = cond (eqb k m) (endsAt s k spot) (standsAt s c p k spot)
 
 -- what an accepted grant leaves
 unfoldable pub taken : Gdp → ℕ → List ℕ → List ℕ → Outcome

@@ -53,7 +53,7 @@ impl Gdp {
         !is_ready(w)
     }
 
-    fn is_bad_regs(self) -> bool
+    pub fn is_bad_regs(self) -> bool
         ensures { λ r. ⌜ r ≡ badRegs (self .regs) ⌝ }
     {
         let r = self.regs;

@@ -60,7 +60,7 @@ impl Gdp {
         }
     }
 
-    pub fn read_number(self, address: u8) -> u8
+    fn read_number(self, address: u8) -> u8
         ensures { λ r. ⌜ r ≡ readNumber self address ⌝ }
     {
         lowest_of(

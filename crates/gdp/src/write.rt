@@ -69,7 +69,7 @@ impl Gdp {
         (address == 0x0) & is_lettering(k) & self.is_tilted()
     }
 
-    pub fn write_number(self, address: u8, value: u8) -> u8
+    fn write_number(self, address: u8, value: u8) -> u8
         ensures { λ r. ⌜ r ≡ writeNumber self address value ⌝ }
     {
         let pen = (address == 0xC) | (address == 0xD);
