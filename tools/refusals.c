@@ -1,0 +1,202 @@
+/* Every refusal number, from every call that can give it, through include/gdp.h. Held: the number is the lowest that
+   applies; the value is 0, and state and lent memory are as handed in. Null pointers with length 0 are among the
+   memories. What answers otherwise is told, and the exit status is then 1. tools/hosts runs it. */
+#include "gdp.h"
+
+#include <stdio.h>
+#include <stdlib.h>
+#include <string.h>
+
+static unsigned passed, failed;
+
+static void judge(int right, const char *call, unsigned number, unsigned wanted) {
+    if (right && number == wanted) {
+        passed++;
+        return;
+    }
+    failed++;
+    if (failed <= 20) /* one fault makes many */
+        fprintf(stderr, "refusals.c: %s gave %u and should give %u%s.\n", call, number, wanted,
+                right ? "" : "; value, state or lent memory are not as they should be");
+}
+
+/* An accepted answer is held to its number alone: what it draws is tested elsewhere. */
+static gdp_state answered(const char *call, gdp_state handed, gdp_answer a, int unchanged, unsigned wanted) {
+    int kept = unchanged && a.value == 0 && memcmp(&a.state, &handed, sizeof handed) == 0;
+    judge(wanted == GDP_ACCEPTED || kept, call, a.number, wanted);
+    return a.state;
+}
+
+/* Memory of exactly so many bytes, so that a checker sees any step past its end; none at all is the null pointer. */
+static uint8_t *lent(size_t length) {
+    uint8_t *bytes = length ? malloc(length) : NULL;
+    if (length && !bytes) {
+        fprintf(stderr, "refusals.c: there is no memory.\n");
+        exit(1);
+    }
+    for (size_t i = 0; i < length; i++)
+        bytes[i] = (uint8_t)(37 * i + 11);
+    return bytes;
+}
+
+static int as_lent(const uint8_t *bytes, size_t length) {
+    for (size_t i = 0; i < length; i++)
+        if (bytes[i] != (uint8_t)(37 * i + 11))
+            return 0;
+    return 1;
+}
+
+static gdp_state grant(gdp_state s, size_t length, size_t table_length, unsigned wanted) {
+    uint8_t *picture = lent(length), *table = lent(table_length);
+    gdp_answer a = gdp_grant(s, 65535, picture, length, table, table_length);
+    int unchanged = as_lent(picture, length) && as_lent(table, table_length);
+    free(picture);
+    free(table);
+    return answered("gdp_grant", s, a, unchanged, wanted);
+}
+
+static gdp_state set_vb(gdp_state s, uint8_t level, size_t length, unsigned wanted) {
+    uint8_t *picture = lent(length);
+    gdp_answer a = gdp_set_vb(s, level, picture, length);
+    int unchanged = as_lent(picture, length);
+    free(picture);
+    return answered("gdp_set_vb", s, a, unchanged, wanted);
+}
+
+static gdp_state put(gdp_state s, unsigned address, unsigned value, unsigned wanted) {
+    return answered("gdp_write", s, gdp_write(s, (uint8_t)address, (uint8_t)value), 1, wanted);
+}
+
+static void lpck(gdp_state s, unsigned h, unsigned v, unsigned wanted) {
+    answered("gdp_lpck", s, gdp_lpck(s, (uint16_t)h, (uint16_t)v), 1, wanted);
+}
+
+static void address(gdp_state s, unsigned wanted) {
+    gdp_outputs o = gdp_address(s);
+    judge(wanted == GDP_ACCEPTED || (o.low == 0 && o.high == 0 && o.msl == 0), "gdp_address", o.number, wanted);
+}
+
+/* Refusal 1 from every call, also where others apply. */
+static void bad(gdp_state s) {
+    for (unsigned a = 0; a < 256; a++) {
+        put(s, a, 0x41, GDP_BAD_STATE);
+        answered("gdp_read", s, gdp_read(s, (uint8_t)a), 1, GDP_BAD_STATE);
+    }
+    grant(s, 0, 0, GDP_BAD_STATE);
+    grant(s, GDP_EF9366_BYTES, GDP_TABLE_BYTES, GDP_BAD_STATE);
+    for (unsigned level = 0; level < 2; level++) {
+        set_vb(s, (uint8_t)level, 0, GDP_BAD_STATE);
+        set_vb(s, (uint8_t)level, GDP_EF9366_BYTES, GDP_BAD_STATE);
+    }
+    lpck(s, 0, 0, GDP_BAD_STATE);
+    lpck(s, 64, 256, GDP_BAD_STATE);
+    address(s, GDP_BAD_STATE);
+}
+
+enum { STEPS = 1 << 2, CLEAR = 2 << 2, IS_0C = 1 << 4, CLEAR_OPEN = 1 << 5, PEN_OPEN = 2 << 6, VB = 1 };
+
+/* The causes that gdp_state's comment lists, each by itself in a state that is else good. */
+static void bad_states(gdp_state good) {
+    uint8_t f = good.modes;
+    gdp_state s;
+#define WITH(change) (s = good, change, bad(s))
+    WITH(s.x = 4096);
+    WITH(s.y = 4096);
+    WITH(s.ctrl1 = 128);
+    WITH(s.ctrl2 = 16);
+    WITH(s.xlp = 2);
+    WITH((s.modes = f | STEPS, s.code = 0x05));
+    WITH((s.modes = f | STEPS, s.code = 0x04));
+    WITH((s.modes = f | STEPS, s.code = 0x41, s.ctrl2 = 4));
+    WITH((s.modes = f | STEPS, s.code = 0x0A, s.ctrl2 = 4));
+    WITH((s.modes = f | STEPS, s.code = 0x0B, s.ctrl2 = 4));
+    WITH((s.modes = f | STEPS, s.code = 0x0F, s.done = 1));
+    WITH((s.modes = f | STEPS, s.code = 0x41, s.done = 48));
+    WITH((s.modes = f | CLEAR | CLEAR_OPEN, s.signals = VB));
+    WITH((s.modes = f | PEN_OPEN, s.signals = VB));
+    WITH(s.modes |= 3);
+    WITH(s.modes |= 3 << 2);
+    WITH(s.modes |= 3 << 6);
+    WITH(s.modes |= IS_0C);
+    WITH(s.modes |= CLEAR_OPEN);
+    WITH(s.code = 0x11);
+    WITH(s.done = 1);
+    WITH(s.signals = 16);
+#undef WITH
+}
+
+static int is_character(unsigned code) {
+    return (code >= 0x20 && code <= 0x7F) || code == 0x0A || code == 0x0B;
+}
+
+/* 4 to 7, for every address and every byte. */
+static void writes(gdp_state s, int busy, int tilted) {
+    for (unsigned a = 0; a < 256; a++)
+        for (unsigned v = 0; v < 256; v++)
+            put(s, a, v,
+                a == 4 || a == 6 || a >= 0xE                ? GDP_BAD_ADDRESS
+                : a == GDP_XLP || a == GDP_YLP              ? GDP_READ_ONLY
+                : busy                                      ? GDP_BUSY
+                : a == GDP_CMD && tilted && is_character(v) ? GDP_TILTED
+                                                            : GDP_ACCEPTED);
+}
+
+static void reads(gdp_state s) {
+    for (unsigned a = 0; a < 256; a++) {
+        unsigned wanted = a == 4 || a == 6 || a >= 0xE ? GDP_BAD_ADDRESS : GDP_ACCEPTED;
+        answered("gdp_read", s, gdp_read(s, (uint8_t)a), 1, wanted);
+    }
+}
+
+static void edges(gdp_state s) {
+    static const unsigned numbers[] = {0, 63, 64, 255, 256, 319, 65535};
+    for (unsigned i = 0; i < 7; i++)
+        for (unsigned j = 0; j < 7; j++)
+            lpck(s, numbers[i], numbers[j], numbers[i] > 63 || numbers[j] > 255 ? GDP_OFF_SCREEN : GDP_ACCEPTED);
+}
+
+/* 2 before 3, whatever runs. */
+static void memories(gdp_state s, size_t right) {
+    const size_t lengths[] = {0, 1, right - 1, right, right + 1, 8192, 16384, 32768, 480};
+    const size_t tables[] = {0, 1, 479, 480, 481, 8192};
+    for (unsigned i = 0; i < 9; i++) {
+        unsigned picture = lengths[i] == right ? GDP_ACCEPTED : GDP_BAD_PICTURE;
+        set_vb(s, 0, lengths[i], picture);
+        set_vb(s, 255, lengths[i], picture);
+        for (unsigned j = 0; j < 6; j++)
+            grant(s, lengths[i], tables[j], picture ? picture : tables[j] == 480 ? GDP_ACCEPTED : GDP_BAD_TABLE);
+    }
+}
+
+static void good(gdp_state s, size_t right, int busy, int tilted) {
+    writes(s, busy, tilted);
+    reads(s);
+    edges(s);
+    memories(s, right);
+    address(s, GDP_ACCEPTED);
+}
+
+int main(void) {
+    static const size_t lengths[] = {GDP_EF9366_BYTES, GDP_FMAT_HIGH_BYTES, GDP_FMAT_LOW_BYTES};
+    gdp_state none;
+    memset(&none, 255, sizeof none);
+    for (unsigned f = 3; f < 256; f++)
+        answered("gdp_fresh", none, gdp_fresh((uint8_t)f), 1, GDP_BAD_STATE);
+    bad(none);
+    for (unsigned f = 0; f < 3; f++) {
+        gdp_answer fresh = gdp_fresh((uint8_t)f);
+        judge(fresh.value == 0, "gdp_fresh", fresh.number, GDP_ACCEPTED);
+        gdp_state idle = fresh.state;
+        gdp_state letter = put(idle, GDP_CMD, 0x41, GDP_ACCEPTED);
+        gdp_state clear = put(idle, GDP_CMD, 0x04, GDP_ACCEPTED);
+        gdp_state tilted = put(idle, GDP_CTRL2, 0x04, GDP_ACCEPTED);
+        good(idle, lengths[f], 0, 0);
+        good(letter, lengths[f], 1, 0);
+        good(clear, lengths[f], 1, 0);
+        good(tilted, lengths[f], 0, 1);
+        good(put(tilted, GDP_CMD, 0x11, GDP_ACCEPTED), lengths[f], 1, 1);
+        bad_states(idle);
+    }
+    printf("%u calls answered as they should, %u not\n", passed, failed);
+    return failed > 0;
+}
