@@ -1,7 +1,8 @@
-/* The EF9365 / EF9366 for C11 and C++11: link with libboundary.a, which `rt staticlib boundary` makes (README.md).
+/* The EF9365 / EF9366 for C11 and C++11: link with libboundary.a, which `rt staticlib boundary` makes (README.md) for
+   x86-64 and its System V calling convention.
 
    A call takes the state by value and hands back the next one. The library keeps nothing, allocates nothing, has no
-   variables of its own and needs only memset; it may be called from an interrupt and from several threads at once.
+   variables of its own and needs only memset: it is reentrant, from several threads and from interrupts alike.
 
    Picture and table belong to the caller and are lent for the time of one call. The table is only read. A picture may
    not be lent to two calls at once, nor overlap the table. A length is in bytes and is that of the memory lent: any

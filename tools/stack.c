@@ -1,0 +1,145 @@
+/* The stack that each call of the library takes at most: the room below the caller is painted, the call made, and the
+   lowest byte that it wrote looked up. Counted from the caller's stack pointer, so arguments and return address are in
+   it, and the answer, which lies in the caller's own frame, is not. Prints a line for each call; tools/size runs it.
+   The inputs reach each branch that a call can take: every command in every format, line types, tilt and turned,
+   characters of two sizes, cyclic or not, all levels and frames, and refusals. */
+#include "gdp.h"
+
+#include <stdio.h>
+#include <stdlib.h>
+#include <string.h>
+
+enum { ROOM = 1024 };
+enum { FRESH, WRITE, READ, GRANT, SET_VB, LPCK, ADDRESS, CALLS };
+static const char *const names[CALLS] = {"gdp_fresh", "gdp_write", "gdp_read",   "gdp_grant",
+                                         "gdp_set_vb", "gdp_lpck", "gdp_address"};
+static size_t deepest[CALLS];
+static unsigned long made[CALLS];
+static uint8_t picture[GDP_FMAT_HIGH_BYTES], table[GDP_TABLE_BYTES];
+static size_t length;
+
+static inline uintptr_t stack_pointer(void) {
+    uintptr_t at;
+#if defined __x86_64__
+    __asm__ volatile("mov %%rsp, %0" : "=r"(at));
+#elif defined __aarch64__
+    __asm__ volatile("mov %0, sp" : "=r"(at));
+#else
+#error "say here how the stack pointer is read"
+#endif
+    return at;
+}
+
+/* Paints the room below its own stack pointer, where nothing of its own lies, and makes the call there. */
+__attribute__((noinline)) static gdp_state measured(uint64_t colour, int call, gdp_state s, unsigned first,
+                                                    unsigned second) {
+    gdp_answer a = {0};
+    volatile uint64_t *room = (volatile uint64_t *)(stack_pointer() - ROOM);
+    for (size_t i = 0; i < ROOM / 8; i++)
+        room[i] = colour;
+    switch (call) {
+    case FRESH:
+        a = gdp_fresh((uint8_t)first);
+        break;
+    case WRITE:
+        a = gdp_write(s, (uint8_t)first, (uint8_t)second);
+        break;
+    case READ:
+        a = gdp_read(s, (uint8_t)first);
+        break;
+    case GRANT:
+        a = gdp_grant(s, (uint16_t)first, picture, length, table, second);
+        break;
+    case SET_VB:
+        a = gdp_set_vb(s, (uint8_t)first, picture, second);
+        break;
+    case LPCK:
+        a = gdp_lpck(s, (uint16_t)first, (uint16_t)second);
+        break;
+    default:
+        a.number = gdp_address(s).number;
+        a.state = s;
+    }
+    size_t below = 0;
+    while (below < ROOM && ((volatile uint8_t *)room)[below] == (uint8_t)colour)
+        below++;
+    if (ROOM - below > deepest[call])
+        deepest[call] = ROOM - below;
+    made[call]++;
+    return a.state;
+}
+
+/* A byte that the call wrote in the paint's own colour is found by the other colour. */
+static gdp_state call(int which, gdp_state s, unsigned first, unsigned second) {
+    measured(0xA5A5A5A5A5A5A5A5, which, s, first, second);
+    return measured(0x5A5A5A5A5A5A5A5A, which, s, first, second);
+}
+
+/* All calls from one state. */
+static void from(gdp_state s) {
+    for (unsigned a = 0; a < 16; a++)
+        call(READ, s, a, 0);
+    for (unsigned a = 1; a < 16; a++)
+        call(WRITE, s, a, 0xFF);
+    static const unsigned cycles[] = {0, 1, 7, 65535};
+    for (unsigned i = 0; i < 4; i++)
+        call(GRANT, s, cycles[i], sizeof table);
+    call(GRANT, s, 1, 0);
+    call(SET_VB, s, 0, length);
+    call(SET_VB, s, 1, length);
+    call(SET_VB, s, 1, 0);
+    call(LPCK, s, 10, 20);
+    call(LPCK, s, 64, 256);
+    call(ADDRESS, s, 0, 0);
+}
+
+/* A command, and what can follow it: part of its cycles, or its frames. */
+static void commanded(gdp_state s, unsigned code) {
+    s = call(WRITE, s, GDP_CMD, code);
+    from(s);
+    from(call(GRANT, s, 3, sizeof table));
+    s = call(SET_VB, s, 1, length);
+    s = call(SET_VB, s, 0, length);
+    from(s);
+}
+
+static void format(unsigned number, size_t bytes) {
+    static const unsigned ctrl1[] = {0x00, 0x73, 0x7B}; /* up; down with all flags; the same on a cyclic screen */
+    static const unsigned sizes[] = {0x11, 0x32};
+    length = bytes;
+    gdp_state fresh = call(FRESH, (gdp_state){0}, number, 0);
+    for (unsigned i = 0; i < 3; i++)
+        for (unsigned ctrl2 = 0; ctrl2 < 16; ctrl2 += i == 1 ? 1 : 8) /* line type, tilt, turned; else only turned */
+            for (unsigned j = 0; j < 2; j++)
+                for (unsigned code = 0; code < 256; code++) {
+                    gdp_state s = fresh;
+                    s.ctrl1 = (uint8_t)ctrl1[i];
+                    s.ctrl2 = (uint8_t)ctrl2;
+                    s.csize = (uint8_t)sizes[j];
+                    s.deltax = 200;
+                    s.deltay = 77;
+                    s.x = 4000;
+                    s.y = 250;
+                    commanded(s, code);
+                }
+}
+
+int main(void) {
+    gdp_state none;
+    memset(&none, 255, sizeof none);
+    memset(table, 0x55, sizeof table);
+    for (unsigned f = 3; f < 256; f++)
+        call(FRESH, none, f, 0);
+    from(none);
+    format(GDP_EF9366, GDP_EF9366_BYTES);
+    format(GDP_FMAT_HIGH, GDP_FMAT_HIGH_BYTES);
+    format(GDP_FMAT_LOW, GDP_FMAT_LOW_BYTES);
+    for (int i = 0; i < CALLS; i++) {
+        if (deepest[i] == ROOM) {
+            fprintf(stderr, "stack.c: %s goes below the paint: make ROOM larger.\n", names[i]);
+            return 1;
+        }
+        printf("%-12s %5zu bytes at most in %lu calls\n", names[i], deepest[i], made[i]);
+    }
+    return 0;
+}
