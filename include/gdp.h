@@ -16,13 +16,13 @@
 
 /* The formats of gdp_fresh. */
 enum {
-    GDP_EF9366 = 0,    /* 512 × 256 dots */
-    GDP_FMAT_HIGH = 1, /* EF9365, 512 × 512 */
-    GDP_FMAT_LOW = 2   /* EF9365, 256 × 256 */
+    GDP_EF9366 = 0,    /* 512 by 256 dots */
+    GDP_FMAT_HIGH = 1, /* EF9365, 512 by 512 */
+    GDP_FMAT_LOW = 2   /* EF9365, 256 by 256 */
 };
 
 /* The bytes of a picture, and of a character table. Line 0 is the bottom one. Dot (X, Y) is bit X mod 8 (0 the lowest)
-   of byte Y × (width / 8) + X / 8, and 1 is lit. The table has 96 glyphs from code 20 (hex), five bytes each, left
+   of byte Y * (width / 8) + X / 8, and 1 is lit. The table has 96 glyphs from code 20 (hex), five bytes each, left
    column first, bit 0 the bottom row. */
 enum {
     GDP_EF9366_BYTES = 16384,

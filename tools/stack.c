@@ -11,8 +11,8 @@
 
 enum { ROOM = 1024 };
 enum { FRESH, WRITE, READ, GRANT, SET_VB, LPCK, ADDRESS, CALLS };
-static const char *const names[CALLS] = {"gdp_fresh", "gdp_write", "gdp_read",   "gdp_grant",
-                                         "gdp_set_vb", "gdp_lpck", "gdp_address"};
+static const char *const names[CALLS] = {"gdp_fresh",  "gdp_write", "gdp_read",   "gdp_grant",
+                                         "gdp_set_vb", "gdp_lpck",  "gdp_address"};
 static size_t deepest[CALLS];
 static unsigned long made[CALLS];
 static uint8_t picture[GDP_FMAT_HIGH_BYTES], table[GDP_TABLE_BYTES];
