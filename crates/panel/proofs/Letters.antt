@@ -3,19 +3,15 @@
 use mathlib.Core.Path.{_≡_, refl, ap, ap₂}
 use mathlib.Core.Bool.{Bool, true, false, cond, _&&_}
 use mathlib.Core.List.{List, []}
-use Prim.Native.Nat.{ℕ, _%_, _<_}
+use Prim.Native.Nat.{ℕ, _%_}
 use native.Mathlib.Omega.{arith}
 use lib.Dec.{eqb, leb}
 use borrow.Author.Tests.{leb-true}
 use Rattle.panel.specs.declared.parse.Record.{Record}
 use Rattle.panel.specs.declared.parse.Record.the-variants.{Write, Read, Cycles, Blanking, Edge, Malformed}
-use Rattle.panel.specs.Text.{isNumber, isDecimal, isHex, decimalFrom, hexFrom}
 use Rattle.panel.specs.Record.{recordBy}
+use Rattle.panel.specs.Taken.{Taken}
 use Rattle.panel.proofs.Numbers.{both}
-
--- how the code reads a field: whether it is a number, and which
-abbrev Reads : (ℕ → Bool) → (ℕ → List ℕ → ℕ) → ℕ → ℕ → List ℕ → Bool → ℕ → Type 0
-Reads test from most limit f ok n = (ok ≡ isNumber test most f) × (n ≡ cond ok (from 0 f) 0) × (n < limit)
 
 -- two records that are the same where the test holds
 same-if : (t : Bool) {r q : Record} → (t ≡ true → r ≡ q) → cond t r Malformed ≡ cond t q Malformed
@@ -24,45 +20,45 @@ same-if false h = refl
 
 module _ (l : ℕ) (f : List ℕ) where
   -- R: the address
-  pub says-read : (a : Bool) (n : ℕ) → l ≡ 82 → Reads isHex hexFrom 1 256 f a n
+  pub says-read : (a : Bool) (n : ℕ) → l ≡ 82 → Taken 16 1 f a n
       → recordBy l 2 f [] ≡ cond a (Read (n % 256)) Malformed
   unfolding recordBy
-  says-read true n h e = rw (h, ← e .0, ← e .1) (ap Read (omega (arith, e .2)))
-  says-read false n h e = rw (h, ← e .0)
+  says-read true n h e = rw (h, ← e .is, ← e .number) (ap Read (omega (arith, e .small)))
+  says-read false n h e = rw (h, ← e .is)
 
   -- T: the cycles, at most 65,535
-  pub says-cycles : (a : Bool) (n : ℕ) → l ≡ 84 → Reads isDecimal decimalFrom 5 100000 f a n
+  pub says-cycles : (a : Bool) (n : ℕ) → l ≡ 84 → Taken 10 5 f a n
       → recordBy l 2 f [] ≡ cond (a && leb n 65535) (Cycles (n % 65536)) Malformed
   unfolding recordBy
-  says-cycles true n h e = rw (h, ← e .0, ← e .1) (same-if (leb n 65535) (λ t. ap Cycles (omega (arith, leb-true n 65535 t))))
-  says-cycles false n h e = rw (h, ← e .0)
+  says-cycles true n h e = rw (h, ← e .is, ← e .number) (same-if (leb n 65535) (λ t. ap Cycles (omega (arith, leb-true n 65535 t))))
+  says-cycles false n h e = rw (h, ← e .is)
 
   -- V: 0 or 1
-  pub says-blanking : (a : Bool) (n : ℕ) → l ≡ 86 → Reads isDecimal decimalFrom 1 100000 f a n
+  pub says-blanking : (a : Bool) (n : ℕ) → l ≡ 86 → Taken 10 1 f a n
       → recordBy l 2 f [] ≡ cond (a && leb n 1) (Blanking (eqb n 1)) Malformed
   unfolding recordBy
-  says-blanking true n h e = rw (h, ← e .0, ← e .1)
-  says-blanking false n h e = rw (h, ← e .0)
+  says-blanking true n h e = rw (h, ← e .is, ← e .number)
+  says-blanking false n h e = rw (h, ← e .is)
 
   module _ (g : List ℕ) where
     -- W: address and value
-    pub says-write : (a b : Bool) (m n : ℕ) → l ≡ 87 → Reads isHex hexFrom 1 256 f a m → Reads isHex hexFrom 2 256 g b n
+    pub says-write : (a b : Bool) (m n : ℕ) → l ≡ 87 → Taken 16 1 f a m → Taken 16 2 g b n
         → recordBy l 3 f g ≡ cond (a && b) (Write (m % 256) (n % 256)) Malformed
     unfolding recordBy
     says-write true true m n h d e =
-        rw (h, ← d .0, ← e .0, ← d .1, ← e .1) (ap₂ Write (omega (arith, d .2)) (omega (arith, e .2)))
-    says-write true false m n h d e = rw (h, ← d .0, ← e .0)
-    says-write false b m n h d e = rw (h, ← d .0)
+        rw (h, ← d .is, ← e .is, ← d .number, ← e .number) (ap₂ Write (omega (arith, d .small)) (omega (arith, e .small)))
+    says-write true false m n h d e = rw (h, ← d .is, ← e .is)
+    says-write false b m n h d e = rw (h, ← d .is)
 
     -- L: h and v, at most 255
     pub says-edge : (a b : Bool) (m n : ℕ) → l ≡ 76
-        → Reads isDecimal decimalFrom 3 100000 f a m → Reads isDecimal decimalFrom 3 100000 g b n
+        → Taken 10 3 f a m → Taken 10 3 g b n
         → recordBy l 3 f g ≡ cond (a && b && leb m 255 && leb n 255) (Edge (m % 65536) (n % 65536)) Malformed
     unfolding recordBy
     says-edge true true m n h d e =
-        rw (h, ← d .0, ← e .0, ← d .1, ← e .1)
+        rw (h, ← d .is, ← e .is, ← d .number, ← e .number)
         (same-if (leb m 255 && leb n 255) (λ t.
         let p = both (leb m 255) (leb n 255) t in
         ap₂ Edge (omega (arith, leb-true m 255 (p .0))) (omega (arith, leb-true n 255 (p .1)))))
-    says-edge true false m n h d e = rw (h, ← d .0, ← e .0)
-    says-edge false b m n h d e = rw (h, ← d .0)
+    says-edge true false m n h d e = rw (h, ← d .is, ← e .is)
+    says-edge false b m n h d e = rw (h, ← d .is)

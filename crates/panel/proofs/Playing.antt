@@ -1,7 +1,7 @@
 -- A log played line by line: what is written and what is still to come are together the definition's answers.
 -- Assumes nothing.
 use mathlib.Core.Path.{_≡_, refl, sym, ap, _∙_}
-use mathlib.Core.List.{List, [], _∷_, _++_, append-assoc, append-nil}
+use mathlib.Core.List.{List, _++_, append-assoc, append-nil}
 use Prim.Native.Nat.{ℕ, suc, _+_, _-_, _*_, _≤_, _<_}
 use native.Mathlib.Numerals.{add-one}
 use native.Mathlib.Omega.{arith}
@@ -12,7 +12,7 @@ use Rattle.panel.specs.declared.parse.Record.{Record}
 use Rattle.panel.specs.Found.{Found}
 use Rattle.panel.specs.Text.{linesOf}
 use Rattle.panel.specs.Record.{recordOf}
-use Rattle.panel.specs.Panel.{stateAfter, pictureAfter, answerTo, answers, shown}
+use Rattle.panel.specs.Panel.{answerTo, answers, shown}
 use Rattle.panel.specs.Wrote.{Wrote}
 use Rattle.panel.specs.Played.{Stepped}
 use Rattle.panel.proofs.Lines.{lines-next, lines-end}

@@ -2,18 +2,18 @@
 -- Assumes nothing.
 use mathlib.Core.Path.{_≡_, refl, sym, ap, _∙_}
 use mathlib.Core.Logic.{_⊎_, inl, inr, ⊎-elim}
-use mathlib.Core.Bool.{Bool, false, and-false}
+use mathlib.Core.Bool.{false, and-false}
 use mathlib.Core.List.{List, [], _∷_}
 use Prim.Native.Nat.{ℕ, suc, _+_, _-_, _<_, _≤_}
 use native.Mathlib.Omega.{arith}
-use lib.Dec.{eqb}
+use lib.Dec.{eqb, ltb}
 use lib.ListN.{length, getD, take, drop, length-drop}
 use lib.Seq.{drop-cons, take-all}
-use borrow.Author.Tests.{ne-eqb, eqb-true, eqb-false}
+use borrow.Author.Tests.{ne-eqb, eqb-true, eqb-false, le-ltb}
 use Rattle.picture.proofs.Dots.{split}
 use Rattle.panel.specs.declared.parse.Record.{Record}
 use Rattle.panel.specs.declared.parse.Record.the-variants.{Malformed}
-use Rattle.panel.specs.Text.{attached, fieldsOf, all, isNumber, isDecimal, isHex}
+use Rattle.panel.specs.Text.{attached, fieldsOf, digitValue, areDigits, isNumber}
 use Rattle.panel.specs.Record.{letterOf, recordBy, recordOf}
 use Rattle.panel.specs.Found.{Found}
 use Rattle.panel.proofs.Numbers.{no-digits}
@@ -36,7 +36,7 @@ module _ (l : ℕ) (f g : List ℕ) where
   other-two w e = simp (ne-eqb l 87 w, ne-eqb l 76 e, and-false)
 
   -- three fields, the last of them no number
-  bad-last : isNumber isHex 2 g ≡ false → isNumber isDecimal 3 g ≡ false → recordBy l 3 f g ≡ Malformed
+  bad-last : isNumber 16 2 g ≡ false → isNumber 10 3 g ≡ false → recordBy l 3 f g ≡ Malformed
   unfolding recordBy
   bad-last h d = simp (h, d, and-false)
 
@@ -99,27 +99,18 @@ some-field (b ∷ bs) =
 
 -- a text is one field, or it has a tab, which is no digit
 tabs : (t : List ℕ)
-    → (fieldsOf t ≡ t ∷ []) ⊎ ((1 < length (fieldsOf t)) × ((test : ℕ → Bool) → test 9 ≡ false → all test t ≡ false))
-unfolding fieldsOf attached all
+    → (fieldsOf t ≡ t ∷ []) ⊎ ((1 < length (fieldsOf t)) × ((base : ℕ) → base ≤ 16 → areDigits base t ≡ false))
+unfolding fieldsOf attached areDigits digitValue
 tabs [] = inl refl
 tabs (b ∷ bs) =
     ⊎-elim
-    (λ t. inr (rw t (omega (arith, some-field bs)), λ test z. rw (eqb-true b 9 t) (rw z)))
+    (λ t. inr (rw t (omega (arith, some-field bs)), λ base small. rw (eqb-true b 9 t) (rw (le-ltb 16 base small))))
     (λ t.
     ⊎-elim
     (λ (e : fieldsOf bs ≡ bs ∷ []). inl (rw t (rw e)))
-    (λ p. inr (rw t (omega (arith, p .0, no-fewer b (fieldsOf bs))), λ test z. rw (p .1 test z) (and-false (test b))))
+    (λ p. inr (rw t (omega (arith, p .0, no-fewer b (fieldsOf bs))), λ base small. rw (p .1 base small) (and-false (ltb (digitValue b) base))))
     (tabs bs))
     (split (eqb b 9))
-
--- a tab is no digit
-tab-no-hex : isHex 9 ≡ false
-unfolding isHex isDecimal
-tab-no-hex = refl
-
-tab-no-decimal : isDecimal 9 ≡ false
-unfolding isDecimal
-tab-no-decimal = refl
 
 -- whatever stands behind the second tab is taken for the last field: with a third tab it is no number
 last-field : (l : ℕ) (f t : List ℕ) → recordBy l (suc (suc (length (fieldsOf t)))) f (getD (fieldsOf t) 0 []) ≡ recordBy l 3 f t
@@ -128,7 +119,7 @@ last-field l f t =
     (λ e. rw e)
     (λ p.
     other-count l f (getD (fieldsOf t) 0 []) (suc (suc (length (fieldsOf t)))) (λ e. omega (arith, p .0)) (λ e. omega (arith, p .0))
-    ∙ sym (bad-last l f t (no-digits isHex 2 t (p .1 isHex tab-no-hex)) (no-digits isDecimal 3 t (p .1 isDecimal tab-no-decimal))))
+    ∙ sym (bad-last l f t (no-digits 16 2 t (p .1 16 (omega arith))) (no-digits 10 3 t (p .1 10 (omega arith)))))
     (tabs t)
 
 -- a line of three bytes or more: its letter, what stands behind that, and the rest

@@ -1,5 +1,6 @@
 pub mod Text
 pub mod Found
+pub mod Taken
 pub mod Record
 pub mod Answer
 pub mod Panel

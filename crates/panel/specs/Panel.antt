@@ -1,8 +1,8 @@
 -- The panel program: it plays a fresh EF9366 with a dark picture and an all-zero character table.
 -- Assumes nothing.
 use mathlib.Core.Path.{_≡_}
-use Prim.Native.Nat.{ℕ, zero, suc, _+_, _/_, _%_, _≤_, _<_}
-use mathlib.Core.Bool.{Bool, true, false, cond}
+use Prim.Native.Nat.{ℕ, zero, suc, _/_, _%_, _≤_, _<_}
+use mathlib.Core.Bool.{cond}
 use mathlib.Core.List.{List, [], _∷_, _++_}
 use lib.Dec.{ltb}
 use lib.ListN.{length, replicate, take}
@@ -10,7 +10,7 @@ use Rattle.picture.specs.Dot.{dotAt}
 use Rattle.parts.specs.declared.format.Format.the-variants.{Ef9366}
 use Rattle.gdp.specs.declared.state.Gdp.{Gdp}
 use Rattle.gdp.specs.State.{fresh}
-use Rattle.gdp.specs.Calls.{Outcome, written, readOut, granted, blanked, struck}
+use Rattle.gdp.specs.Calls.{written, readOut, granted, blanked, struck}
 use Rattle.panel.specs.declared.parse.Record.{Record}
 use Rattle.panel.specs.declared.parse.Record.the-variants.{Write, Read, Cycles, Blanking, Edge, Malformed}
 use Rattle.panel.specs.Text.{linesOf}

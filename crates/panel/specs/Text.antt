@@ -1,7 +1,7 @@
 -- Bytes as text: digits, fields parted by tabs, lines ended by line feeds.
 -- Assumes nothing.
 use Prim.Native.Nat.{ℕ, zero, suc, _+_, _-_, _*_, _/_, _%_}
-use mathlib.Core.Bool.{Bool, true, false, cond, _&&_, _||_}
+use mathlib.Core.Bool.{Bool, true, cond, _&&_}
 use mathlib.Core.List.{List, [], _∷_, _++_}
 use lib.Dec.{eqb, ltb, leb}
 use lib.ListN.{length}
@@ -27,32 +27,22 @@ unfoldable pub fieldsOf : List ℕ → List (List ℕ)
 fieldsOf [] = [] ∷ []
 fieldsOf (b ∷ bs) = cond (eqb b tab) ([] ∷ fieldsOf bs) (attached b (fieldsOf bs))
 
--- 0 to 9; and A to F, capitals
-unfoldable pub isDecimal : ℕ → Bool
-isDecimal b = leb 48 b && leb b 57
+-- the value of a digit, 0 to 9 and A to F, capitals; any other byte is no digit of any base, and counts 16
+unfoldable pub digitValue : ℕ → ℕ
+digitValue b = cond (leb 48 b && leb b 57) (b - 48) (cond (leb 65 b && leb b 70) (b - 55) 16)
 
-unfoldable pub isHex : ℕ → Bool
-isHex b = isDecimal b || (leb 65 b && leb b 70)
+unfoldable pub areDigits : ℕ → List ℕ → Bool
+areDigits base [] = true
+areDigits base (b ∷ bs) = ltb (digitValue b) base && areDigits base bs
 
-unfoldable pub hexValue : ℕ → ℕ
-hexValue b = cond (leb 65 b) (b - 55) (b - 48)
-
-unfoldable pub all : (ℕ → Bool) → List ℕ → Bool
-all test [] = true
-all test (b ∷ bs) = test b && all test bs
-
--- a field of at least one digit and at most k
-unfoldable pub isNumber : (ℕ → Bool) → ℕ → List ℕ → Bool
-isNumber test k f = leb 1 (length f) && leb (length f) k && all test f
+-- a field of at least one digit of the base and at most k; decimal is base 10, hex is base 16
+unfoldable pub isNumber : ℕ → ℕ → List ℕ → Bool
+isNumber base k f = leb 1 (length f) && leb (length f) k && areDigits base f
 
 -- its number, the highest digit first: n is what stands before
-unfoldable pub decimalFrom : ℕ → List ℕ → ℕ
-decimalFrom n [] = n
-decimalFrom n (b ∷ bs) = decimalFrom (n * 10 + (b - 48)) bs
-
-unfoldable pub hexFrom : ℕ → List ℕ → ℕ
-hexFrom n [] = n
-hexFrom n (b ∷ bs) = hexFrom (n * 16 + hexValue b) bs
+unfoldable pub numberFrom : ℕ → ℕ → List ℕ → ℕ
+numberFrom base n [] = n
+numberFrom base n (b ∷ bs) = numberFrom base (n * base + digitValue b) bs
 
 -- a digit as text: one hex digit, a capital from 10 on
 unfoldable pub hexDigit : ℕ → ℕ

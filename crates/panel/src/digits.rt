@@ -1,36 +1,19 @@
 // Digits, in and out.
 ghost use mathlib.Core.Path.{_≡_};
-ghost use mathlib.Core.Bool.{true};
-ghost use Prim.Native.Nat.{_-_, _<_};
-ghost use Rattle.panel.specs.Text.{isDecimal, isHex, hexValue, hexDigit};
+ghost use Prim.Native.Nat.{_<_};
+ghost use Rattle.panel.specs.Text.{digitValue, hexDigit};
 
-pub fn is_decimal(b: u8) -> bool
-    ensures { λ r. ⌜ r ≡ isDecimal b ⌝ }
+// The value of a digit, 0 to 9 and A to F, capitals; 16 of any other byte.
+pub fn digit_value(b: u8) -> u8
+    ensures { λ r. ⌜ r ≡ digitValue b ⌝ }
 {
-    (48 <= b) & (b <= 57)
-}
-
-// 0 to 9 and A to F, capitals.
-pub fn is_hex(b: u8) -> bool
-    ensures { λ r. ⌜ r ≡ isHex b ⌝ }
-{
-    is_decimal(b) | ((65 <= b) & (b <= 70))
-}
-
-// The value of a decimal digit.
-pub fn decimal_value(b: u8) -> u8
-    requires { ⌜ isDecimal b ≡ true ⌝ }
-    ensures { λ r. ⌜ (r ≡ b - 48) × (r < 10) ⌝ }
-{
-    b - 48
-}
-
-// The value of a hex digit.
-pub fn hex_value(b: u8) -> u8
-    requires { ⌜ isHex b ≡ true ⌝ }
-    ensures { λ r. ⌜ (r ≡ hexValue b) × (r < 16) ⌝ }
-{
-    if 65 <= b { b - 55 } else { b - 48 }
+    if (48 <= b) & (b <= 57) {
+        return b - 48;
+    }
+    if (65 <= b) & (b <= 70) {
+        return b - 55;
+    }
+    16
 }
 
 // A hex digit of a value, a capital from 10 on.

@@ -1,16 +1,12 @@
 // The records of a log: what a line means.
 ghost use mathlib.Core.Path.{_≡_};
-ghost use mathlib.Core.Bool.{cond};
 ghost use mathlib.Core.List.{[]};
 ghost use Prim.Native.Nat.{_+_, _≤_, _<_};
 ghost use lib.ListN.{length};
-ghost use Rattle.panel.specs.Text.{isDecimal, isHex, isNumber, decimalFrom, hexFrom};
 ghost use Rattle.panel.specs.Record.{recordBy, recordOf};
 ghost use Rattle.panel.specs.Found.{Found};
-use crate::digits::decimal_value;
-use crate::digits::hex_value;
-use crate::digits::is_decimal;
-use crate::digits::is_hex;
+ghost use Rattle.panel.specs.Taken.{Taken};
+use crate::digits::digit_value;
 
 pub enum Record {
     Write { address: u8, value: u8 },
@@ -42,10 +38,10 @@ pub fn find(s: &[u8], from: usize, b: u8) -> usize
     i
 }
 
-// A field of one to `most` decimal digits; ok only where it is one.
-fn decimal_number(f: &[u8], most: usize) -> Number
-    requires { ⌜ most ≤ 5 ⌝ }
-    ensures { λ r. ⌜ (r .ok ≡ isNumber isDecimal most (now (f .entry))) × (r .n ≡ cond (r .ok) (decimalFrom 0 (now (f .entry))) 0) × (r .n < 100000) ⌝ }
+// A field of one to `most` digits of a base; ok only where it is one.
+fn number_of(f: &[u8], base: u32, most: usize) -> Number
+    requires { ⌜ (0 < base) × (base ≤ 16) × (most ≤ 5) ⌝ }
+    ensures { λ r. ⌜ Taken base most (now (f .entry)) (r .ok) (r .n) ⌝ }
 {
     if f.len() == 0 {
         return Number { ok: false, n: 0 };
@@ -56,35 +52,11 @@ fn decimal_number(f: &[u8], most: usize) -> Number
     let mut n: u32 = 0;
     let mut i = 0;
     while i < f.len() {
-        let b = f[i];
-        if !is_decimal(b) {
+        let d = digit_value(f[i]) as u32;
+        if base <= d {
             return Number { ok: false, n: 0 };
         }
-        n = n * 10 + decimal_value(b) as u32;
-        i += 1;
-    }
-    Number { ok: true, n: n }
-}
-
-// A field of one to `most` hex digits.
-fn hex_number(f: &[u8], most: usize) -> Number
-    requires { ⌜ most ≤ 2 ⌝ }
-    ensures { λ r. ⌜ (r .ok ≡ isNumber isHex most (now (f .entry))) × (r .n ≡ cond (r .ok) (hexFrom 0 (now (f .entry))) 0) × (r .n < 256) ⌝ }
-{
-    if f.len() == 0 {
-        return Number { ok: false, n: 0 };
-    }
-    if most < f.len() {
-        return Number { ok: false, n: 0 };
-    }
-    let mut n: u32 = 0;
-    let mut i = 0;
-    while i < f.len() {
-        let b = f[i];
-        if !is_hex(b) {
-            return Number { ok: false, n: 0 };
-        }
-        n = n * 16 + hex_value(b) as u32;
+        n = n * base + d;
         i += 1;
     }
     Number { ok: true, n: n }
@@ -95,7 +67,7 @@ fn parse_one(letter: u8, f: &[u8]) -> Record
     ensures { λ r. ⌜ r ≡ recordBy letter 2 (now (f .entry)) [] ⌝ }
 {
     if letter == 82 {
-        let a = hex_number(f, 1);
+        let a = number_of(f, 16, 1);
         if a.ok {
             return Record::Read {
                 address: (a.n % 256) as u8,
@@ -104,7 +76,7 @@ fn parse_one(letter: u8, f: &[u8]) -> Record
         return Record::Malformed;
     }
     if letter == 84 {
-        let n = decimal_number(f, 5);
+        let n = number_of(f, 10, 5);
         if n.ok & (n.n <= 65535) {
             return Record::Cycles {
                 n: (n.n % 65536) as u16,
@@ -113,7 +85,7 @@ fn parse_one(letter: u8, f: &[u8]) -> Record
         return Record::Malformed;
     }
     if letter == 86 {
-        let b = decimal_number(f, 1);
+        let b = number_of(f, 10, 1);
         if b.ok & (b.n <= 1) {
             return Record::Blanking { level: b.n == 1 };
         }
@@ -127,8 +99,8 @@ fn parse_two(letter: u8, f: &[u8], g: &[u8]) -> Record
     ensures { λ r. ⌜ r ≡ recordBy letter 3 (now (f .entry)) (now (g .entry)) ⌝ }
 {
     if letter == 87 {
-        let a = hex_number(f, 1);
-        let v = hex_number(g, 2);
+        let a = number_of(f, 16, 1);
+        let v = number_of(g, 16, 2);
         if a.ok & v.ok {
             return Record::Write {
                 address: (a.n % 256) as u8,
@@ -138,8 +110,8 @@ fn parse_two(letter: u8, f: &[u8], g: &[u8]) -> Record
         return Record::Malformed;
     }
     if letter == 76 {
-        let h = decimal_number(f, 3);
-        let v = decimal_number(g, 3);
+        let h = number_of(f, 10, 3);
+        let v = number_of(g, 10, 3);
         if h.ok & v.ok & (h.n <= 255) & (v.n <= 255) {
             return Record::Edge {
                 h: (h.n % 65536) as u16,

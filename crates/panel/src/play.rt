@@ -2,10 +2,9 @@
 ghost use mathlib.Core.Path.{_≡_};
 ghost use mathlib.Core.List.{[]};
 ghost use Prim.Native.Nat.{_+_, _≤_};
-ghost use lib.ListN.{length, take};
 ghost use Rattle.gdp.specs.Calls.{written, readOut, granted, blanked, struck};
 ghost use Rattle.panel.specs.Answer.{lineR, lineT, answered};
-ghost use Rattle.panel.specs.Panel.{glyphs, dark, answers, shown, panel};
+ghost use Rattle.panel.specs.Panel.{glyphs};
 ghost use Rattle.panel.specs.Played.{Room, Stepped};
 ghost use Rattle.panel.specs.Wrote.{Wrote};
 use crate::output::put_e;

@@ -1,6 +1,6 @@
 // Plays every line of a log.
 ghost use mathlib.Core.Path.{_≡_};
-ghost use Prim.Native.Nat.{_+_, _*_, _≤_};
+ghost use Prim.Native.Nat.{_+_, _≤_};
 ghost use lib.ListN.{length};
 ghost use Rattle.parts.specs.declared.format.Format.{Format};
 ghost use Rattle.gdp.specs.State.{fresh};

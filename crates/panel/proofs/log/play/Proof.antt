@@ -1,9 +1,7 @@
 -- `panel::log::play` meets its contract: the three pieces stand one behind the other at the buffer's start.
 -- Assumes nothing.
-use mathlib.Core.Path.{_≡_, refl, sym, _∙_}
-use Prim.Native.Nat.{_+_, _≤_}
+use mathlib.Core.Path.{refl, sym, _∙_}
 use native.Mathlib.Omega.{arith}
-use lib.ListN.{length}
 use borrow.Author.Needs.{needs}
 use Rattle.panel.proofs.LineLengths.{lineG-length}
 use Rattle.panel.proofs.Whole.{panel-long, at-start, all-written}

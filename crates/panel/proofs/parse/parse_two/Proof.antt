@@ -11,28 +11,28 @@ returns : tie.Need-returns
 returns c =
     let at = c .before .before .before .before .before in
     sym
-    (says-write _ _ _ _ _ _ _ (at .before .before .if1 .taken) (at .before .hex-number .ensures) (at .hex-number2 .ensures)
+    (says-write _ _ _ _ _ _ _ (at .before .before .if1 .taken) (at .before .number-of .ensures) (at .number-of2 .ensures)
     ∙ rw (c .before .before .if2 .taken))
 
 returns-2 : tie.Need-returns-2
 returns-2 c =
     let at = c .before .before .before in
     sym
-    (says-write _ _ _ _ _ _ _ (at .before .before .if1 .taken) (at .before .hex-number .ensures) (at .hex-number2 .ensures)
+    (says-write _ _ _ _ _ _ _ (at .before .before .if1 .taken) (at .before .number-of .ensures) (at .number-of2 .ensures)
     ∙ rw (c .if2 .left))
 
 returns-3 : tie.Need-returns-3
 returns-3 c =
     let at = c .before .before .before .before .before .before .before in
     sym
-    (says-edge _ _ _ _ _ _ _ (at .before .before .if3 .taken) (at .before .decimal-number .ensures) (at .decimal-number2 .ensures)
+    (says-edge _ _ _ _ _ _ _ (at .before .before .if3 .taken) (at .before .number-of3 .ensures) (at .number-of4 .ensures)
     ∙ rw (c .before .before .if4 .taken))
 
 returns-4 : tie.Need-returns-4
 returns-4 c =
     let at = c .before .before .before .before .before in
     sym
-    (says-edge _ _ _ _ _ _ _ (at .before .before .if3 .taken) (at .before .decimal-number .ensures) (at .decimal-number2 .ensures)
+    (says-edge _ _ _ _ _ _ _ (at .before .before .if3 .taken) (at .before .number-of3 .ensures) (at .number-of4 .ensures)
     ∙ rw (c .if4 .left))
 
 returns-5 : tie.Need-returns-5
