@@ -8,5 +8,6 @@ pub mod Lines
 pub mod Numbers
 pub mod Records
 pub mod Letters
+pub mod Steps
 pub mod Playing
 pub mod Whole

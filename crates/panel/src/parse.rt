@@ -1,7 +1,7 @@
 // The records of a log: what a line means.
 ghost use mathlib.Core.Path.{_≡_};
 ghost use mathlib.Core.List.{[]};
-ghost use Prim.Native.Nat.{_+_, _≤_, _<_};
+ghost use Prim.Native.Nat.{_≤_, _<_};
 ghost use lib.ListN.{length};
 ghost use Rattle.panel.specs.Record.{recordBy, recordOf};
 ghost use Rattle.panel.specs.Found.{Found};

@@ -1,9 +1,9 @@
 // Plays a log on a fresh EF9366 with a dark picture and an all-zero character table.
 ghost use mathlib.Core.Path.{_≡_};
-ghost use mathlib.Core.List.{[]};
-ghost use Prim.Native.Nat.{_+_, _≤_};
-ghost use Rattle.gdp.specs.Calls.{written, readOut, granted, blanked, struck};
-ghost use Rattle.panel.specs.Answer.{lineR, lineT, answered};
+ghost use mathlib.Core.List.{List, []};
+ghost use Prim.Native.Nat.{ℕ, _+_, _≤_};
+ghost use Rattle.panel.specs.declared.parse.Record.{Record};
+ghost use Rattle.panel.specs.Answer.{answered};
 ghost use Rattle.panel.specs.Panel.{glyphs};
 ghost use Rattle.panel.specs.Played.{Room, Stepped};
 ghost use Rattle.panel.specs.Wrote.{Wrote};
@@ -30,9 +30,10 @@ fn put_refusal(out: &mut [u8], at: usize, line: u32, number: u8) -> usize
     put_e(out, at, line, number)
 }
 
+// W. It is lent no picture, so it is the step for any; L and R likewise.
 fn play_write(s: Gdp, line: u32, address: u8, value: u8, out: &mut [u8], at: usize) -> Step
     requires { ⌜ Room line at (now out) ⌝ }
-    ensures { λ r. ⌜ (r .state ≡ (written s address value) .state) × Wrote (now (out .entry)) at (answered line ((written s address value) .number) []) (now (out .exit)) (r .at) × (r .at ≤ at + 11) ⌝ }
+    ensures { λ r. ⌜ ((p : List ℕ) → Stepped line s p (Record.Write address value) (now (out .entry)) at (r .state) p (now (out .exit)) (r .at)) ⌝ }
 {
     let a = s.write(address, value);
     let state = a.state;
@@ -43,9 +44,10 @@ fn play_write(s: Gdp, line: u32, address: u8, value: u8, out: &mut [u8], at: usi
     }
 }
 
+// L.
 fn play_edge(s: Gdp, line: u32, h: u16, v: u16, out: &mut [u8], at: usize) -> Step
     requires { ⌜ Room line at (now out) ⌝ }
-    ensures { λ r. ⌜ (r .state ≡ (struck s h v) .state) × Wrote (now (out .entry)) at (answered line ((struck s h v) .number) []) (now (out .exit)) (r .at) × (r .at ≤ at + 11) ⌝ }
+    ensures { λ r. ⌜ ((p : List ℕ) → Stepped line s p (Record.Edge h v) (now (out .entry)) at (r .state) p (now (out .exit)) (r .at)) ⌝ }
 {
     let a = s.strike_lpck(h, v);
     let state = a.state;
@@ -56,9 +58,10 @@ fn play_edge(s: Gdp, line: u32, h: u16, v: u16, out: &mut [u8], at: usize) -> St
     }
 }
 
+// R.
 fn play_read(s: Gdp, line: u32, address: u8, out: &mut [u8], at: usize) -> Step
     requires { ⌜ Room line at (now out) ⌝ }
-    ensures { λ r. ⌜ (r .state ≡ (readOut s address) .state) × Wrote (now (out .entry)) at (answered line ((readOut s address) .number) (lineR address ((readOut s address) .value))) (now (out .exit)) (r .at) × (r .at ≤ at + 11) ⌝ }
+    ensures { λ r. ⌜ ((p : List ℕ) → Stepped line s p (Record.Read address) (now (out .entry)) at (r .state) p (now (out .exit)) (r .at)) ⌝ }
 {
     let a = s.read(address);
     let state = a.state;
@@ -76,6 +79,7 @@ fn play_read(s: Gdp, line: u32, address: u8, out: &mut [u8], at: usize) -> Step
     }
 }
 
+// T.
 fn play_cycles(
     s: Gdp,
     line: u32,
@@ -86,7 +90,7 @@ fn play_cycles(
     at: usize,
 ) -> Step
     requires { ⌜ Room line at (now out) × (now table ≡ glyphs) ⌝ }
-    ensures { λ r. ⌜ (r .state ≡ (granted s n (now (pic .entry)) glyphs) .answer .state) × (now (pic .exit) ≡ (granted s n (now (pic .entry)) glyphs) .picture) × Wrote (now (out .entry)) at (answered line ((granted s n (now (pic .entry)) glyphs) .answer .number) (lineT ((granted s n (now (pic .entry)) glyphs) .answer .value))) (now (out .exit)) (r .at) × (r .at ≤ at + 11) ⌝ }
+    ensures { λ r. ⌜ Stepped line s (now (pic .entry)) (Record.Cycles n) (now (out .entry)) at (r .state) (now (pic .exit)) (now (out .exit)) (r .at) ⌝ }
 {
     let a = s.grant(n, pic, table);
     let state = a.state;
@@ -104,9 +108,10 @@ fn play_cycles(
     }
 }
 
+// V.
 fn play_blanking(s: Gdp, line: u32, level: bool, pic: &mut [u8], out: &mut [u8], at: usize) -> Step
     requires { ⌜ Room line at (now out) ⌝ }
-    ensures { λ r. ⌜ (r .state ≡ (blanked s level (now (pic .entry))) .answer .state) × (now (pic .exit) ≡ (blanked s level (now (pic .entry))) .picture) × Wrote (now (out .entry)) at (answered line ((blanked s level (now (pic .entry))) .answer .number) []) (now (out .exit)) (r .at) × (r .at ≤ at + 11) ⌝ }
+    ensures { λ r. ⌜ Stepped line s (now (pic .entry)) (Record.Blanking level) (now (out .entry)) at (r .state) (now (pic .exit)) (now (out .exit)) (r .at) ⌝ }
 {
     let a = s.set_vb(level, pic);
     let state = a.state;

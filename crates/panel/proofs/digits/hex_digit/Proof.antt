@@ -1,3 +1,5 @@
+-- `panel::digits::hex_digit` meets its contract: by the test.
+-- Assumes nothing.
 use borrow.Author.Needs.{needs}
 use borrow.Author.Tests.{lt-ltb, le-ltb}
 use Rattle.panel.specs.Text.{hexDigit}

@@ -1,3 +1,5 @@
+-- `panel::dots::put_dot` meets its contract: by what `bit_at` answers.
+-- Assumes nothing.
 use native.Mathlib.Omega.{arith}
 use borrow.Author.Needs.{needs}
 use Rattle.panel.proofs.Writing.{wrote-none}

@@ -1,3 +1,5 @@
+-- `panel::log::blank_table` meets its contract: 480 zeros are the blank table.
+-- Assumes nothing.
 use mathlib.Core.Path.{refl}
 use Rattle.panel.specs.Panel.{glyphs}
 use Rattle.panel.proofs.log.blank_table.Statement.{statement}

@@ -1,3 +1,5 @@
+-- `panel::log::dark_picture` meets its contract: 16,384 zeros are the dark picture.
+-- Assumes nothing.
 use mathlib.Core.Path.{refl}
 use Rattle.panel.specs.Panel.{dark}
 use Rattle.panel.proofs.log.dark_picture.Statement.{statement}

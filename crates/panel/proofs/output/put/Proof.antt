@@ -1,3 +1,5 @@
+-- `panel::output::put` meets its contract: one byte more stands there.
+-- Assumes nothing.
 use borrow.Author.Needs.{needs}
 use Rattle.panel.proofs.Writing.{wrote-one}
 use Rattle.panel.proofs.output.put.Statement.{statement}

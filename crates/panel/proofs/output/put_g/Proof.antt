@@ -1,3 +1,5 @@
+-- `panel::output::put_g` meets its contract: the pieces, one behind the other, are the line.
+-- Assumes nothing.
 use native.Mathlib.Omega.{arith}
 use borrow.Author.Needs.{needs}
 use Rattle.panel.specs.Text.{decimal, decimalBy}

@@ -1,3 +1,5 @@
+-- `panel::output::put_letter` meets its contract: the letter, and the tab behind it.
+-- Assumes nothing.
 use borrow.Author.Needs.{needs}
 use Rattle.panel.proofs.Writing.{wrote-more}
 use Rattle.panel.proofs.output.put_letter.Statement.{statement}

@@ -1,3 +1,5 @@
+-- `panel::output::put_p` meets its contract: the pair is the line, and its numbers are short.
+-- Assumes nothing.
 use borrow.Author.Needs.{needs}
 use Rattle.panel.specs.Answer.{lineP}
 use Rattle.panel.proofs.Writing.{wrote-within}

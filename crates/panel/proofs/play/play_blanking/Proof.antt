@@ -1,7 +1,9 @@
-use mathlib.Core.Path.{refl}
+-- `panel::play::play_blanking` meets its contract: the call gives state and picture, and a refusal is told.
+-- Assumes nothing.
 use borrow.Author.Needs.{needs}
 use native.Mathlib.Omega.{arith}
 use Rattle.panel.proofs.Answers.{blanked-small}
+use Rattle.panel.proofs.Steps.{blanking-stepped}
 use Rattle.panel.proofs.play.play_blanking.Statement.{statement}
 use Rattle.panel.proofs.play.play_blanking.Tie as tie
 
@@ -14,9 +16,7 @@ put-refusal-requires c κs =
 
 returns : tie.Need-returns
 returns c =
-    let put = c .before .before .put-refusal .ensures in
-    let call = c .before .before .before .before .before .before .before .set-vb .ensures in
-    rw (← call .answers) (refl, call .pictures, put .0, put .1)
+    blanking-stepped (c .before .before .before .before .before .before .before .set-vb .ensures) (c .before .before .put-refusal .ensures)
 
 pub play-blanking-spec : {M : Type 1} → statement M
 play-blanking-spec =

@@ -1,7 +1,9 @@
-use mathlib.Core.Path.{refl}
+-- `panel::play::play_cycles` meets its contract: an accepted grant answers T, a refused one E.
+-- Assumes nothing.
 use borrow.Author.Needs.{needs}
 use native.Mathlib.Omega.{arith}
 use Rattle.panel.proofs.Answers.{answer-given, answer-refused, granted-small}
+use Rattle.panel.proofs.Steps.{cycles-stepped}
 use Rattle.panel.proofs.play.play_cycles.Statement.{statement}
 use Rattle.panel.proofs.play.play_cycles.Tie as tie
 
@@ -10,9 +12,8 @@ returns c =
     let on = c .before .before .before .before in
     let call = on .before .before .before .before .before in
     let put = c .before .before .put-t .ensures in
-    let z = on .if1 .taken in
-    rw (← call .before .before .before .before .before .pre .1, ← call .grant .ensures .answers, answer-given)
-    (refl, call .grant .ensures .pictures, put .0, omega (arith, put .1))
+    let told = rw (call .before .before .before .before .before .pre .1) at (call .grant .ensures) in
+    cycles-stepped told (rw (answer-given _ _ _ (on .if1 .taken)) (put .0, omega (arith, put .1)))
 
 put-e-requires : tie.Need-put-e-requires
 put-e-requires c κs =
@@ -26,9 +27,8 @@ returns-2 c =
     let on = c .before .before .before .before in
     let call = on .before .before .before .before .before in
     let put = c .before .before .put-e .ensures in
-    let z = on .if1 .left in
-    rw (← call .before .before .before .before .before .pre .1, ← call .grant .ensures .answers, answer-refused)
-    (refl, call .grant .ensures .pictures, put .0, put .1)
+    let told = rw (call .before .before .before .before .before .pre .1) at (call .grant .ensures) in
+    cycles-stepped told (rw (answer-refused _ _ _ (on .if1 .left)) put)
 
 pub play-cycles-spec : {M : Type 1} → statement M
 play-cycles-spec =

@@ -1,7 +1,9 @@
-use mathlib.Core.Path.{refl}
+-- `panel::play::play_edge` meets its contract: the call gives the state, and a refusal is told.
+-- Assumes nothing.
 use borrow.Author.Needs.{needs}
 use native.Mathlib.Omega.{arith}
 use Rattle.panel.proofs.Answers.{struck-small}
+use Rattle.panel.proofs.Steps.{edge-stepped}
 use Rattle.panel.proofs.play.play_edge.Statement.{statement}
 use Rattle.panel.proofs.play.play_edge.Tie as tie
 
@@ -13,9 +15,7 @@ put-refusal-requires c κs =
     (s .pre, rw (call .strike-lpck .ensures) (omega (arith, struck-small (a .s) (a .h) (a .v))))
 
 returns : tie.Need-returns
-returns c =
-    let put = c .before .before .put-refusal .ensures in
-    rw (← c .before .before .before .before .before .strike-lpck .ensures) (refl, put .0, put .1)
+returns c p = edge-stepped p (c .before .before .before .before .before .strike-lpck .ensures) (c .before .before .put-refusal .ensures)
 
 pub play-edge-spec : {M : Type 1} → statement M
 play-edge-spec = tie.close (tie.spec (λ c κs. search needs) put-refusal-requires (λ c. search needs) returns)

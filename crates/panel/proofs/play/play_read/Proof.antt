@@ -1,8 +1,11 @@
-use mathlib.Core.Path.{refl}
+-- `panel::play::play_read` meets its contract: an accepted read answers R, a refused one E.
+-- Assumes nothing.
 use borrow.Author.Needs.{needs}
 use native.Mathlib.Omega.{arith}
+use Rattle.panel.proofs.Writing.{wrote-within}
 use Rattle.panel.proofs.LineLengths.{lineR-length}
 use Rattle.panel.proofs.Answers.{answer-given, answer-refused, read-small, read-address}
+use Rattle.panel.proofs.Steps.{read-stepped}
 use Rattle.panel.proofs.play.play_read.Statement.{statement}
 use Rattle.panel.proofs.play.play_read.Tie as tie
 
@@ -13,13 +16,12 @@ put-r-requires c κs =
     (read-address (s .args .s) (s .args .address) (rw (call .read .ensures) at (c .before .if1 .taken)), omega (arith, s .pre .room))
 
 returns : tie.Need-returns
-returns c =
+returns c p =
     let on = c .before .before .before .before in
     let call = on .before .before .before in
     let put = c .before .before .put-r .ensures in
-    let z = on .if1 .taken in
-    rw (← call .read .ensures, answer-given)
-    (refl, put, omega (arith, put .end, lineR-length (call .before .before .args .address) (call .read .result .value)))
+    let short = lineR-length (call .before .before .args .address) (call .read .result .value) in
+    read-stepped p (call .read .ensures) (rw (answer-given _ _ _ (on .if1 .taken)) (wrote-within (omega (arith, short)) put))
 
 put-e-requires : tie.Need-put-e-requires
 put-e-requires c κs =
@@ -28,11 +30,10 @@ put-e-requires c κs =
     (s .pre .line, rw (call .read .ensures) (omega (arith, read-small (s .args .s) (s .args .address))), s .pre .room)
 
 returns-2 : tie.Need-returns-2
-returns-2 c =
+returns-2 c p =
     let on = c .before .before .before .before in
     let put = c .before .before .put-e .ensures in
-    let z = on .if1 .left in
-    rw (← on .before .before .before .read .ensures, answer-refused) (refl, put .0, put .1)
+    read-stepped p (on .before .before .before .read .ensures) (rw (answer-refused _ _ _ (on .if1 .left)) put)
 
 pub play-read-spec : {M : Type 1} → statement M
 play-read-spec =

@@ -1,3 +1,5 @@
+-- `panel::play::play_record` meets its contract: each record is played by its function, and a malformed line is told by E.
+-- Assumes nothing.
 use mathlib.Core.Path.{refl}
 use borrow.Author.Needs.{needs}
 use Rattle.panel.specs.Panel.{stateAfter, pictureAfter, answerTo}
@@ -5,39 +7,29 @@ use Rattle.panel.proofs.play.play_record.Statement.{statement}
 use Rattle.panel.proofs.play.play_record.Tie as tie
 
 returns : tie.Need-returns
-unfolding stateAfter pictureAfter answerTo
 returns c =
-    let done = c .before .before .play-write .ensures in
-    rw (c .before .before .before .before .before .what .given .1)
-    (record { state = done .0; picture = refl; text = done .1; short = done .2 })
+    let done = c .before .before in
+    rw (done .before .before .before .what .given .1) (done .play-write .ensures _)
 
 returns-2 : tie.Need-returns-2
-unfolding stateAfter pictureAfter answerTo
 returns-2 c =
-    let done = c .before .before .play-read .ensures in
-    rw (c .before .before .before .before .before .what2 .given .1)
-    (record { state = done .0; picture = refl; text = done .1; short = done .2 })
+    let done = c .before .before in
+    rw (done .before .before .before .what2 .given .1) (done .play-read .ensures _)
 
 returns-3 : tie.Need-returns-3
-unfolding stateAfter pictureAfter answerTo
 returns-3 c =
-    let done = c .before .before .before .before .play-cycles .ensures in
-    rw (c .before .before .before .before .before .before .before .before .what3 .given .1)
-    (record { state = done .0; picture = done .1; text = done .2; short = done .3 })
+    let done = c .before .before .before .before in
+    rw (done .before .before .before .before .what3 .given .1) (done .play-cycles .ensures)
 
 returns-4 : tie.Need-returns-4
-unfolding stateAfter pictureAfter answerTo
 returns-4 c =
-    let done = c .before .before .before .before .play-blanking .ensures in
-    rw (c .before .before .before .before .before .before .before .before .what4 .given .1)
-    (record { state = done .0; picture = done .1; text = done .2; short = done .3 })
+    let done = c .before .before .before .before in
+    rw (done .before .before .before .before .what4 .given .1) (done .play-blanking .ensures)
 
 returns-5 : tie.Need-returns-5
-unfolding stateAfter pictureAfter answerTo
 returns-5 c =
-    let done = c .before .before .play-edge .ensures in
-    rw (c .before .before .before .before .before .what5 .given .1)
-    (record { state = done .0; picture = refl; text = done .1; short = done .2 })
+    let done = c .before .before in
+    rw (done .before .before .before .what5 .given .1) (done .play-edge .ensures _)
 
 returns-6 : tie.Need-returns-6
 unfolding stateAfter pictureAfter answerTo

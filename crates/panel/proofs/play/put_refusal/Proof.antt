@@ -1,3 +1,5 @@
+-- `panel::play::put_refusal` meets its contract: a refusal is told by E, and nothing else is.
+-- Assumes nothing.
 use borrow.Author.Needs.{needs}
 use native.Mathlib.Omega.{arith}
 use Rattle.panel.proofs.Writing.{wrote-none}
