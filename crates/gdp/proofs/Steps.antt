@@ -1,15 +1,15 @@
 -- A grant as the code goes about it: what a running command can be granted, and that the run's place and picture are the
 -- definition's state and picture.
 -- Assumes nothing.
-use mathlib.Core.Path.{_≡_, refl, sym, ap, _∙_, subst}
-use mathlib.Core.Bool.{Bool, true, false, not, _||_}
+use mathlib.Core.Path.{_≡_, sym, ap, _∙_, subst}
+use mathlib.Core.Bool.{false, not}
 use mathlib.Core.List.{List}
 use Prim.Native.Nat.{ℕ, _+_, _-_, _≤_, _<_, min}
 use native.Mathlib.Omega.{arith}
 use native.Mathlib.Nat.{min-zero}
-use lib.Dec.{eqb, ltb, leb}
+use lib.Dec.{eqb}
 use lib.ListN.{length}
-use borrow.Author.Tests.{lt-ltb, le-ltb, leb-true, leb-false, eqb-true, eqb-false, not-false}
+use borrow.Author.Tests.{lt-ltb, le-ltb, eqb-true, eqb-false, not-false}
 use Rattle.picture.specs.Dot.{paint}
 use Rattle.parts.specs.declared.sequence.Work.{Work}
 use Rattle.parts.specs.declared.sequence.Work.the-variants.{Steps}
@@ -23,7 +23,7 @@ use Rattle.gdp.specs.declared.state.Regs.{Regs}
 use Rattle.gdp.specs.declared.state.Gdp.{Gdp}
 use Rattle.gdp.specs.Figure.{line, cyclesOf, cycles}
 use Rattle.gdp.specs.Cycles.{lights, left, used, dots, dotsFrom, standing, ended, after}
-use Rattle.gdp.specs.Refusals.{badWork, bad, lineBad, wrongPicture, wrongTable, grantNumber}
+use Rattle.gdp.specs.Refusals.{bad, wrongPicture, wrongTable, grantNumber}
 use Rattle.gdp.specs.declared.state.Answer.{Answer}
 use Rattle.gdp.specs.Calls.{Leaves}
 use Rattle.gdp.specs.Good.{GoodWork}
@@ -107,29 +107,7 @@ grant-accepted s pic tab z =
     let f = lowest-zero (bad s) (not (eqb (length pic) (bytes (s .format)))) (not (eqb (length tab) 480)) false false false false false z in
     (f .0, eqb-true _ _ (not-false _ (f .1)), eqb-true _ _ (not-false _ (f .2)))
 
--- where a vector runs, its line's length tells whether its cycles are used up
-same : (a b : Bool) → (a ≡ true → b ≡ true) → (a ≡ false → b ≡ false) → a ≡ b
-same true b h k = sym (h refl)
-same false b h k = sym (k refl)
-
-one-more : (a b : ℕ) → leb (a + 1) b ≡ ltb a b
-one-more a b =
-    same (leb (a + 1) b) (ltb a b)
-    (λ h. lt-ltb a b (omega (arith, leb-true (a + 1) b h)))
-    (λ h. le-ltb a b (omega (arith, leb-false (a + 1) b h)))
-
-or-none : (a : Bool) → (a || false) ≡ a
-or-none true = refl
-or-none false = refl
-
-bad-work : (r : Regs) (vb : Bool) (c p : ℕ) → kind c ≡ Vector → badWork r vb (Steps c p) ≡ ltb (line r c .long) p
-unfolding badWork cycles cyclesOf vectorCycles
-bad-work r vb c p e = rw (e, one-more (line r c .long) p, or-none (ltb (line r c .long) p))
-
-pub line-bad : (s : Gdp) (c p : ℕ) → s .work ≡ Steps c p → kind c ≡ Vector → bad s ≡ lineBad s (ltb (line (s .regs) c .long) p)
-unfolding bad lineBad
-line-bad s c p runs e = rw (runs, bad-work (s .regs) (s .vb) c p e)
-
+-- a vector has one cycle more than its line is long
 abbrev pub long : Line → ℕ
 long l = l .long
 

@@ -31,10 +31,6 @@ badWork r vb (Clear f o) = vb && o
 unfoldable pub bad : Gdp → Bool
 bad s = badRegs (s .regs) || badWork (s .regs) (s .vb) (s .work) || (s .vb && penOpen (s .pen))
 
--- where a vector runs, by whether its cycles are used up
-unfoldable pub lineBad : Gdp → Bool → Bool
-lineBad s over = badRegs (s .regs) || over || (s .vb && penOpen (s .pen))
-
 -- 2: the lent picture is not of the format's length
 unfoldable pub wrongPicture : Gdp → List ℕ → Bool
 wrongPicture s picture = not (eqb (length picture) (bytes (s .format)))

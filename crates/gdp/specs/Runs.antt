@@ -2,7 +2,7 @@
 -- Assumes nothing.
 use mathlib.Core.Path.{_≡_}
 use Prim.Native.Nat.{ℕ, _+_, _≤_, _<_}
-use mathlib.Core.Bool.{Bool, true, false, cond}
+use mathlib.Core.Bool.{cond}
 use mathlib.Core.List.{List}
 use lib.Dec.{eqb, ltb}
 use lib.ListN.{length}
@@ -21,10 +21,7 @@ use Rattle.gdp.specs.Cycles.{startX, startY, placeX, placeY, penDown, li
 use Rattle.gdp.specs.Calls.{Outcome}
 use Rattle.gdp.specs.State.{withPlace, withRegs, withWork, readyRaises}
 use Rattle.gdp.specs.declared.state.Answer.{Answer}
-use Rattle.parts.specs.declared.sequence.Work.{Work}
 use Rattle.parts.specs.declared.sequence.Work.the-variants.{Idle, Steps}
-use Rattle.parts.specs.declared.command.Kind.{Kind}
-use Rattle.parts.specs.declared.command.Kind.the-variants.{NoCycle, OneCycle, Vector, Character, Block}
 
 -- the tip of the pen or eraser over the format's window
 unfoldable pub tipOf : Format → Regs → Tip
@@ -40,17 +37,6 @@ restX r c p i = cond (ltb i (cycles r c)) (placeX r c p i) (ahead (startX r c p)
 
 unfoldable pub restY : Regs → ℕ → ℕ → ℕ → ℕ
 restY r c p i = cond (ltb i (cycles r c)) (placeY r c p i) (ahead (startY r c p) (endY r c (kind c)))
-
--- a vector; and that none runs
-abbrev pub isLine : Kind → Bool
-isLine NoCycle = false
-isLine OneCycle = false
-isLine Vector = true
-isLine Character = false
-isLine Block = false
-
-abbrev pub NoLine : Work → Type 0
-NoLine w = (c p : ℕ) → w ≡ Steps c p → kind c ≡ Vector → ⊥
 
 -- the place after a run, put into the registers
 abbrev pub moved : Gdp → Spot → Gdp

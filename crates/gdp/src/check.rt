@@ -53,7 +53,7 @@ impl Gdp {
         !is_ready(w)
     }
 
-    pub fn is_bad_regs(self) -> bool
+    fn is_bad_regs(self) -> bool
         ensures { λ r. ⌜ r ≡ badRegs (self .regs) ⌝ }
     {
         let r = self.regs;

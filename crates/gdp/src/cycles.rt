@@ -9,11 +9,10 @@ ghost use Rattle.parts.specs.declared.sequence.Work.{Work};
 ghost use Rattle.parts.specs.Command.{kind};
 ghost use Rattle.parts.specs.Format.{bytes};
 ghost use Rattle.parts.specs.Refusal.{lowest};
-ghost use Rattle.motion.specs.Vector.{Lengths};
-ghost use Rattle.gdp.specs.Figure.{line, turned};
-ghost use Rattle.gdp.specs.Refusals.{bad, lineBad};
+ghost use Rattle.gdp.specs.Figure.{turned};
+ghost use Rattle.gdp.specs.Refusals.{bad};
 ghost use Rattle.gdp.specs.Calls.{granted, Leaves};
-ghost use Rattle.gdp.specs.Runs.{tipOf, runOf, Fits, Ran, isLine, NoLine, restsAt, taken};
+ghost use Rattle.gdp.specs.Runs.{tipOf, runOf, Fits, Ran, restsAt, taken};
 use crate::check::cycles_by;
 use crate::state::Answer;
 use crate::state::Gdp;
@@ -28,7 +27,6 @@ use motion::character::block_of;
 use motion::character::character_of;
 use motion::glyph::glyph;
 use motion::glyph::solid_glyph;
-use motion::vector::Line;
 use motion::vector::line_of;
 use parts::command::Kind;
 use parts::command::kind_of;
@@ -37,25 +35,12 @@ use parts::format::height_of;
 use parts::format::width_of;
 use parts::refusal::lowest_of;
 use parts::sequence::Work;
-use parts::sequence::is_pen_open;
 use picture::dot::bit_at;
 
 fn least(a: u16, b: u16) -> u16
     ensures { λ r. ⌜ (r ≡ min a b) × (r ≤ b) ⌝ }
 {
     if a < b { a } else { b }
-}
-
-fn is_line(k: Kind) -> bool
-    ensures { λ r. ⌜ r ≡ isLine k ⌝ }
-{
-    match k {
-        Kind::NoCycle => false,
-        Kind::OneCycle => false,
-        Kind::Vector => true,
-        Kind::Character => false,
-        Kind::Block => false,
-    }
 }
 
 impl Gdp {
@@ -71,15 +56,6 @@ impl Gdp {
             cyclic: bit_at(c, 3),
             down: bit_at(c, 0),
             lit: bit_at(c, 1),
-        }
-    }
-
-    fn place(self) -> Spot
-        ensures { λ r. ⌜ (r .x ≡ self .regs .x) × (r .y ≡ self .regs .y) ⌝ }
-    {
-        Spot {
-            x: self.regs.x,
-            y: self.regs.y,
         }
     }
 
@@ -137,17 +113,33 @@ impl Gdp {
         draw_body(pic, t, turned, b, &solid, run)
     }
 
-    // A run of the next cycles of a command that is no vector: its dots, and the place after it.
+    fn draw_line(self, code: u8, done: u16, used: u16, pic: &mut [u8], table: &[u8]) -> Spot
+        requires { ⌜ kind code ≡ Kind.Vector ⌝ }
+        requires { ⌜ Fits (self .format) (self .regs) code done used (now pic) (now table) ⌝ }
+        ensures { λ s. ⌜ Ran (self .format) (self .regs) (now (table .entry)) code done used s (now (pic .entry)) (now (pic .exit)) ⌝ }
+    {
+        let t = self.tip();
+        let l = line_of(code, self.regs.deltax, self.regs.deltay);
+        let run = self.run_from(done, used);
+        draw_vector(pic, t, self.regs.ctrl2, l, run)
+    }
+
+    // A run of the command's next cycles: its dots, and the place after it.
     fn draw_run(self, code: u8, done: u16, used: u16, pic: &mut [u8], table: &[u8]) -> Spot
-        requires { ⌜ (kind code ≡ Kind.Vector → ⊥) ⌝ }
         requires { ⌜ Fits (self .format) (self .regs) code done used (now pic) (now table) ⌝ }
         ensures { λ s. ⌜ Ran (self .format) (self .regs) (now (table .entry)) code done used s (now (pic .entry)) (now (pic .exit)) ⌝ }
     {
         let k = kind_of(code);
         match k {
-            Kind::NoCycle => self.place(),
-            Kind::OneCycle => self.place(),
-            Kind::Vector => self.place(),
+            Kind::NoCycle => Spot {
+                x: self.regs.x,
+                y: self.regs.y,
+            },
+            Kind::OneCycle => Spot {
+                x: self.regs.x,
+                y: self.regs.y,
+            },
+            Kind::Vector => self.draw_line(code, done, used, pic, table),
             Kind::Character => self.draw_letter(code, done, used, pic, table),
             Kind::Block => self.draw_block(code, done, used, pic, table),
         }
@@ -175,7 +167,7 @@ impl Gdp {
 
     // The cycles of a running command: used, the smaller of n and those left.
     fn step(self, code: u8, done: u16, n: u16, pic: &mut [u8], table: &[u8]) -> Answer
-        requires { ⌜ (self .work ≡ Work.Steps code done) × (bad self ≡ false) × (kind code ≡ Kind.Vector → ⊥) ⌝ }
+        requires { ⌜ (self .work ≡ Work.Steps code done) × (bad self ≡ false) ⌝ }
         requires { ⌜ (length (now pic) ≡ bytes (self .format)) × (length (now table) ≡ 480) ⌝ }
         ensures { λ r. ⌜ Leaves (taken self n (now (pic .entry)) (now (table .entry))) r (now (pic .exit)) ⌝ }
     {
@@ -183,24 +175,6 @@ impl Gdp {
         let left = cycles_by(code, r.csize, r.deltax, r.deltay) - done;
         let used = least(n, left);
         let s = self.draw_run(code, done, used, pic, table);
-        self.after_run(code, done, used, left, s)
-    }
-
-    // The same of a running vector, whose line is at hand.
-    fn step_line(self, l: Line, code: u8, done: u16, n: u16, pic: &mut [u8], table: &[u8]) -> Answer
-        requires { ⌜ (self .work ≡ Work.Steps code done) × (bad self ≡ false) × (kind code ≡ Kind.Vector) ⌝ }
-        requires { ⌜ (l ≡ line (self .regs) code) × Lengths l × (length (now pic) ≡ bytes (self .format)) × (length (now table) ≡ 480) ⌝ }
-        ensures { λ r. ⌜ Leaves (taken self n (now (pic .entry)) (now (table .entry))) r (now (pic .exit)) ⌝ }
-    {
-        let left = l.long + 1 - done;
-        let used = least(n, left);
-        let s = draw_vector(
-            pic,
-            self.tip(),
-            self.regs.ctrl2,
-            l,
-            self.run_from(done, used),
-        );
         self.after_run(code, done, used, left, s)
     }
 
@@ -220,40 +194,8 @@ impl Gdp {
         )
     }
 
-    // The same where a vector runs: its count of cycles is at hand, and `over` is whether that is used up.
-    fn line_number(self, over: bool, picture: usize, table: usize) -> u8
-        ensures { λ r. ⌜ r ≡ lowest (lineBad self over) (not (eqb picture (bytes (self .format)))) (not (eqb table 480)) false false false false false ⌝ }
-    {
-        let f = self.format;
-        let p = self.pen;
-        lowest_of(
-            self.is_bad_regs() | over | (self.vb & is_pen_open(p)),
-            picture != bytes_of(f),
-            table != 480,
-            false,
-            false,
-            false,
-            false,
-            false,
-        )
-    }
-
-    // A grant where a vector runs. Its line is found once: for refusal 1, for the cycles left and for the dots.
-    fn grant_line(self, code: u8, done: u16, n: u16, pic: &mut [u8], table: &[u8]) -> Answer
-        requires { ⌜ (self .work ≡ Work.Steps code done) × (kind code ≡ Kind.Vector) ⌝ }
-        ensures { λ r. ⌜ Leaves (granted self n (now (pic .entry)) (now (table .entry))) r (now (pic .exit)) ⌝ }
-    {
-        let l = line_of(code, self.regs.deltax, self.regs.deltay);
-        let number = self.line_number(l.long < done, pic.len(), table.len());
-        if number == 0 {
-            return self.step_line(l, code, done, n, pic, table);
-        }
-        refused(number, self)
-    }
-
-    // A grant where no vector runs.
-    fn grant_other(self, n: u16, pic: &mut [u8], table: &[u8]) -> Answer
-        requires { ⌜ NoLine (self .work) ⌝ }
+    // Grants n write cycles: those used are the value. Refused with 1, 2 or 3.
+    pub fn grant(self, n: u16, pic: &mut [u8], table: &[u8]) -> Answer
         ensures { λ r. ⌜ Leaves (granted self n (now (pic .entry)) (now (table .entry))) r (now (pic .exit)) ⌝ }
     {
         let number = self.grant_number(pic.len(), table.len());
@@ -266,25 +208,6 @@ impl Gdp {
             }
         } else {
             refused(number, self)
-        }
-    }
-
-    // Grants n write cycles: those used are the value. Refused with 1, 2 or 3.
-    pub fn grant(self, n: u16, pic: &mut [u8], table: &[u8]) -> Answer
-        ensures { λ r. ⌜ Leaves (granted self n (now (pic .entry)) (now (table .entry))) r (now (pic .exit)) ⌝ }
-    {
-        let w = self.work;
-        match w {
-            Work::Idle => self.grant_other(n, pic, table),
-            Work::Steps { code, done } => {
-                let k = kind_of(code);
-                if is_line(k) {
-                    self.grant_line(code, done, n, pic, table)
-                } else {
-                    self.grant_other(n, pic, table)
-                }
-            }
-            Work::Clear { fill: _, open: _ } => self.grant_other(n, pic, table),
         }
     }
 }

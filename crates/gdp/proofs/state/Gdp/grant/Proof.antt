@@ -1,83 +1,76 @@
--- `gdp::state::Gdp::grant` meets its contract: by whether a vector runs.
--- Assumes nothing.
-use mathlib.Core.Path.{_≡_, refl, sym, ap, _∙_}
-use mathlib.Core.Bool.{Bool, true, false, true≢false}
+use mathlib.Core.Path.{refl, sym, ap, _∙_}
+use lib.Dec.{eqb}
 use Prim.Native.Nat.{ℕ}
 use borrow.Author.Needs.{needs}
-use Rattle.parts.specs.declared.sequence.Work.{Work}
-use Rattle.parts.specs.declared.sequence.Work.the-variants.{Idle, Steps, Clear}
-use Rattle.parts.specs.declared.command.Kind.{Kind}
-use Rattle.parts.specs.declared.command.Kind.the-variants.{NoCycle, OneCycle, Vector, Character, Block}
-use Rattle.parts.specs.Command.{kind}
-use Rattle.gdp.specs.Runs.{isLine, NoLine}
+use borrow.Author.Tests.{ne-eqb}
+use Rattle.gdp.specs.Refusals.{wrongPicture, wrongTable, grantNumber}
+use Rattle.gdp.proofs.Split.{idle-still, clear-still}
+use Rattle.gdp.proofs.Grants.{grant-taken, grant-refused}
+use Rattle.gdp.proofs.Steps.{still-taken, grant-accepted}
 use Rattle.gdp.proofs.state.Gdp.grant.Statement.{statement}
 use Rattle.gdp.proofs.state.Gdp.grant.Tie as tie
 
-line-only : (k : Kind) → isLine k ≡ true → k ≡ Vector
-line-only NoCycle e = absurd (true≢false (sym e))
-line-only OneCycle e = absurd (true≢false (sym e))
-line-only Vector e = refl
-line-only Character e = absurd (true≢false (sym e))
-line-only Block e = absurd (true≢false (sym e))
+step-requires : tie.Need-step-requires
+unfolding wrongPicture wrongTable grantNumber
+step-requires c κs =
+    let on = c .before .before .before .before in
+    let s = on .before .before .before .before in
+    let a = s .args in
+    let f = grant-accepted (a .self) (a .pic .now) (a .table .now) (sym (on .before .grant-number .ensures) ∙ on .if1 .taken) in
+    ((c .before .before .w .given .1, f .0), (f .1, f .2))
 
--- a command that steps, and its code
-abbrev steps : Work → Bool
-steps Idle = false
-steps (Steps c p) = true
-steps (Clear f o) = false
+returns : tie.Need-returns
+unfolding wrongPicture wrongTable grantNumber
+returns c =
+    let on = c .before .before .before in
+    let a = on .before .before .before .before .args in
+    rw (
+      grant-taken (a .self) (a .n) (a .pic .now) (a .table .now) (sym (on .before .grant-number .ensures) ∙ on .if1 .taken),
+      c .accepted .ensures,
+    )
+    (still-taken (a .self) (a .n) (a .pic .now) (a .table .now) (idle-still (a .self) (c .before .enum-told .given .1)))
 
-abbrev codeIn : Work → ℕ
-codeIn Idle = 0
-codeIn (Steps c p) = c
-codeIn (Clear f o) = 0
+returns-2 : tie.Need-returns-2
+unfolding wrongPicture wrongTable grantNumber
+returns-2 c =
+    let d = c .before .before in
+    let on = d .before .before .before .before .before in
+    let a = on .before .before .before .before .args in
+    rw (grant-taken (a .self) (a .n) (a .pic .now) (a .table .now) (sym (on .before .grant-number .ensures) ∙ on .if1 .taken)) (d .step .ensures)
 
-idle-none : {w : Work} → w ≡ Idle → NoLine w
-idle-none e c p h k = true≢false (sym (ap steps (sym e ∙ h)))
+returns-3 : tie.Need-returns-3
+unfolding wrongPicture wrongTable grantNumber
+returns-3 c =
+    let on = c .before .before .before in
+    let a = on .before .before .before .before .args in
+    rw (
+      grant-taken (a .self) (a .n) (a .pic .now) (a .table .now) (sym (on .before .grant-number .ensures) ∙ on .if1 .taken),
+      c .accepted2 .ensures,
+    )
+    (still-taken (a .self) (a .n) (a .pic .now) (a .table .now) (clear-still (a .self) _ _ (c .before .enum-told2 .given .1)))
 
-clear-none : {w : Work} {f o : Bool} → w ≡ Clear f o → NoLine w
-clear-none e c p h k = true≢false (sym (ap steps (sym e ∙ h)))
-
-other-none : {w : Work} {d q : ℕ} → w ≡ Steps d q → isLine (kind d) ≡ false → NoLine w
-other-none {d = d} e f c p h k =
-    let same : d ≡ c = ap codeIn (sym e ∙ h) in
-    true≢false (sym (ap isLine (ap kind same ∙ k)) ∙ f)
-
-grant-line-requires : tie.Need-grant-line-requires
-grant-line-requires c κs =
-    let i = c .before .before in
-    let k = i .before in
-    (k .before .before .w .given .1, sym (k .kind-of .ensures) ∙ line-only _ (sym (i .is-line .ensures) ∙ c .before .if1 .taken))
-
-grant-other-requires : tie.Need-grant-other-requires
-grant-other-requires c κs = idle-none (c .before .enum-told .given .1)
-
-grant-other-requires-2 : tie.Need-grant-other-requires-2
-grant-other-requires-2 c κs =
-    let i = c .before .before in
-    let k = i .before in
-    other-none (k .before .before .w .given .1) (ap isLine (sym (k .kind-of .ensures)) ∙ sym (i .is-line .ensures) ∙ c .before .if1 .left)
-
-grant-other-requires-3 : tie.Need-grant-other-requires-3
-grant-other-requires-3 c κs = clear-none (c .before .enum-told2 .given .1)
+returns-4 : tie.Need-returns-4
+unfolding wrongPicture wrongTable grantNumber
+returns-4 c =
+    let a = c .before .before .before .before .before .args in
+    let e = c .before .before .grant-number .ensures in
+    let f = ap (λ (n : ℕ). eqb n 0) (sym e) ∙ ne-eqb (c .before .before .grant-number .result) 0 (c .before .if1 .left) in
+    rw (grant-refused (a .self) (a .n) (a .pic .now) (a .table .now) f, c .refused .ensures) (record { answers = rw e; pictures = refl })
 
 pub grant-spec : {M : Type 1} → statement M
 grant-spec =
     tie.close
     (tie.spec
+    (λ c κs. tt)
     (λ c. search needs)
-    grant-other-requires
+    (λ c κs. tt)
+    (λ c. search needs)
+    step-requires
     (λ c. search needs)
     (λ c κs. tt)
     (λ c κs. tt)
-    grant-line-requires
-    grant-other-requires-2
+    returns
     (λ c. search needs)
-    grant-other-requires-3
-    (λ c. search needs)
-    (λ c. c .before .before .grant-other .ensures)
-    (λ c. search needs)
-    (λ c. c .before .before .grant-line .ensures)
-    (λ c. search needs)
-    (λ c. c .before .before .grant-other2 .ensures)
-    (λ c. search needs)
-    (λ c. c .before .before .grant-other3 .ensures))
+    returns-2
+    returns-3
+    returns-4)

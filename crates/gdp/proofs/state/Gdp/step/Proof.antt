@@ -19,11 +19,9 @@ draw-run-requires : tie.Need-draw-run-requires
 draw-run-requires c κs =
     let s = c .before .before .before .before .before .before in
     let a = s .args in
-    let cy = rw (cycles-by (a .self .regs) (a .code)) at (c .before .before .cycles-by .ensures) in (
-      s .pre .0 .2,
-      rw (c .before .least .ensures .0, cy .0)
-          (grant-fits (a .self) (a .code) (a .done) (a .n) (s .pre .0 .0) (a .pic .now) (a .table .now) (s .pre .0 .1) (rw (cy .0) at (cy .1)) (s .pre .1 .0) (s .pre .1 .1)),
-    )
+    let cy = rw (cycles-by (a .self .regs) (a .code)) at (c .before .before .cycles-by .ensures) in
+    rw (c .before .least .ensures .0, cy .0)
+    (grant-fits (a .self) (a .code) (a .done) (a .n) (s .pre .0 .0) (a .pic .now) (a .table .now) (s .pre .0 .1) (rw (cy .0) at (cy .1)) (s .pre .1 .0) (s .pre .1 .1))
 
 after-run-requires : tie.Need-after-run-requires
 after-run-requires c κs =
