@@ -2,15 +2,32 @@
 // and lends the picture to nobody else meanwhile.
 ghost use mathlib.Core.Path.{_≡_};
 ghost use Rattle.boundary.specs.Calls.{flatAnswer, flatAddress, noState, allOnes, FlatLeaves};
+ghost use Rattle.boundary.specs.Short.{Draws};
 ghost use Rattle.boundary.specs.Calls.{flatFresh, flatWritten, flatRead, flatGranted, flatBlanked, flatStruck, flatLocated};
 use crate::flat::Flat;
 use crate::flat::flat_of;
 use crate::flat::format_at;
 use crate::flat::gdp_of;
 use crate::flat::is_state;
+use crate::short::is_at_rest;
+use crate::short::is_line_code;
+use crate::short::is_line_running;
+use crate::short::is_setting;
+use crate::short::put_code;
+use crate::short::put_end;
+use crate::short::put_place;
+use crate::short::put_register;
+use crate::short::register_in;
+use crate::short::tip_in;
+use drawing::strokes::draw_vector;
+use drawing::tip::Run;
+use gdp::cycles::least;
 use gdp::state::Answer;
 use gdp::state::Gdp;
 use gdp::state::Located;
+use motion::vector::Line;
+use motion::vector::line_of;
+use parts::format::bytes_of;
 
 // The refusal number or 0, the value, and the next state.
 #[repr(C)]
@@ -99,13 +116,51 @@ pub extern "C" fn gdp_fresh(format: u8) -> FlatAnswer
     no_state(all_ones())
 }
 
-// Writes a byte to the register at an address; at 0 it is a command.
-#[no_mangle]
-pub extern "C" fn gdp_write(state: Flat, address: u8, value: u8) -> FlatAnswer
+fn accepted(value: u16, state: Flat) -> FlatAnswer
+    ensures { λ r. ⌜ r ≡ record { number = 0; value = value; state = state } ⌝ }
+{
+    FlatAnswer {
+        number: 0,
+        value: value,
+        state: state,
+    }
+}
+
+// The long way of a write: the state unpacked, the processor's call, its answer packed.
+fn write_long(state: Flat, address: u8, value: u8) -> FlatAnswer
     ensures { λ r. ⌜ r ≡ flatWritten state address value ⌝ }
 {
     if is_state(state) {
         return flat_answer(gdp_of(state).write(address, value));
+    }
+    no_state(state)
+}
+
+// Writes a byte to the register at an address; at 0 it is a command. The long way is left out of line by being named
+// twice, so that the short ways need no stack.
+#[no_mangle]
+pub extern "C" fn gdp_write(state: Flat, address: u8, value: u8) -> FlatAnswer
+    ensures { λ r. ⌜ r ≡ flatWritten state address value ⌝ }
+{
+    if is_at_rest(state) {
+        if is_setting(address) {
+            return accepted(0, put_register(state, address, value));
+        }
+        if address == 0 {
+            if is_line_code(value) {
+                return accepted(0, put_code(state, value));
+            }
+        }
+        return write_long(state, address, value);
+    }
+    write_long(state, address, value)
+}
+
+fn read_long(state: Flat, address: u8) -> FlatAnswer
+    ensures { λ r. ⌜ r ≡ flatRead state address ⌝ }
+{
+    if is_state(state) {
+        return flat_answer(gdp_of(state).read(address));
     }
     no_state(state)
 }
@@ -115,10 +170,42 @@ pub extern "C" fn gdp_write(state: Flat, address: u8, value: u8) -> FlatAnswer
 pub extern "C" fn gdp_read(state: Flat, address: u8) -> FlatAnswer
     ensures { λ r. ⌜ r ≡ flatRead state address ⌝ }
 {
+    if is_at_rest(state) {
+        if is_setting(address) {
+            return accepted(register_in(state, address) as u16, state);
+        }
+        return read_long(state, address);
+    }
+    read_long(state, address)
+}
+
+fn grant_long(state: Flat, n: u16, pic: &mut [u8], table: &[u8]) -> FlatAnswer
+    ensures { λ r. ⌜ FlatLeaves (flatGranted state n (now (pic .entry)) (now (table .entry))) r (now (pic .exit)) ⌝ }
+{
     if is_state(state) {
-        return flat_answer(gdp_of(state).read(address));
+        return flat_answer(gdp_of(state).grant(n, pic, table));
     }
     no_state(state)
+}
+
+// The short way of a grant: the cycles of a running vector of line l.
+fn grant_line(state: Flat, l: Line, n: u16, pic: &mut [u8], table: &[u8]) -> FlatAnswer
+    requires { ⌜ Draws state l (now pic) (now table) ⌝ }
+    ensures { λ r. ⌜ FlatLeaves (flatGranted state n (now (pic .entry)) (now (table .entry))) r (now (pic .exit)) ⌝ }
+{
+    let left = l.long + 1 - state.done;
+    let used = least(n, left);
+    let run = Run {
+        x: state.x,
+        y: state.y,
+        from: state.done,
+        count: used,
+    };
+    let s = draw_vector(pic, tip_in(state), state.ctrl2, l, run);
+    if used == left {
+        return accepted(used, put_end(state, s));
+    }
+    accepted(used, put_place(state, s, used))
 }
 
 // Grants n write cycles: those used are the value.
@@ -126,10 +213,18 @@ pub extern "C" fn gdp_read(state: Flat, address: u8) -> FlatAnswer
 pub extern "C" fn gdp_grant(state: Flat, n: u16, pic: &mut [u8], table: &[u8]) -> FlatAnswer
     ensures { λ r. ⌜ FlatLeaves (flatGranted state n (now (pic .entry)) (now (table .entry))) r (now (pic .exit)) ⌝ }
 {
-    if is_state(state) {
-        return flat_answer(gdp_of(state).grant(n, pic, table));
+    if is_line_running(state) {
+        let l = line_of(state.code, state.deltax, state.deltay);
+        if state.done <= l.long {
+            if pic.len() == bytes_of(format_at(state.modes % 4)) {
+                if table.len() == 480 {
+                    return grant_line(state, l, n, pic, table);
+                }
+            }
+        }
+        return grant_long(state, n, pic, table);
     }
-    no_state(state)
+    grant_long(state, n, pic, table)
 }
 
 // Sets the VB level: 0 is low, and any other byte is high.

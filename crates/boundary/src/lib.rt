@@ -3,3 +3,4 @@
 // bytes that stand for no state are refused with 1, never mended. Assumes nothing.
 pub mod calls;
 pub mod flat;
+mod short;

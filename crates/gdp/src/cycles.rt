@@ -37,7 +37,7 @@ use parts::refusal::lowest_of;
 use parts::sequence::Work;
 use picture::dot::bit_at;
 
-fn least(a: u16, b: u16) -> u16
+pub fn least(a: u16, b: u16) -> u16
     ensures { λ r. ⌜ (r ≡ min a b) × (r ≤ b) ⌝ }
 {
     if a < b { a } else { b }
