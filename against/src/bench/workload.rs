@@ -21,8 +21,8 @@ pub enum Workload {
 
 /// By name, what it is, and the unit its time is given for.
 pub const ALL: [(&str, Workload, &str); 12] = [
-    ("long-vectors", Workload::LongVectors, "dot"),
-    ("dotted", Workload::Dotted, "dot"),
+    ("long-vectors", Workload::LongVectors, "cycle"),
+    ("dotted", Workload::Dotted, "cycle"),
     ("short-vectors", Workload::ShortVectors, "vector"),
     ("csize-11", Workload::Characters { csize: 0x11 }, "cycle"),
     ("csize-44", Workload::Characters { csize: 0x44 }, "cycle"),
@@ -38,7 +38,7 @@ pub const ALL: [(&str, Workload, &str); 12] = [
 pub struct Scene<R> {
     pub picture: Vec<u8>,
     table: Vec<u8>,
-    figures: [u16; morning::POINTS],
+    figures: [u8; morning::POINTS],
     /// Commands about to run, or the one card that goes on.
     cards: Vec<R>,
 }
@@ -51,7 +51,15 @@ impl Workload {
     pub fn scene<R: Runner>(self) -> Scene<R> {
         let mut table = vec![0; 480];
         Random::new(9366).fill(&mut table);
-        Scene { picture: vec![0; 16_384], table, figures: morning::figures(), cards: self.cards() }
+        Scene { picture: vec![self.paper(); 16_384], table, figures: morning::figures(), cards: self.cards() }
+    }
+
+    /// Every byte of the picture before: lit where a pass leaves dots dark, so that what it did shows.
+    fn paper(self) -> u8 {
+        match self {
+            Workload::Clears | Workload::Morning => 0xFF,
+            _ => 0,
+        }
     }
 
     fn cards<R: Runner>(self) -> Vec<R> {

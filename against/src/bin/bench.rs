@@ -1,4 +1,5 @@
-//! bench: a table of times. bench NAME REPEATS [CONTENDER]: one workload, over and over, for a profiler.
+//! bench: a table of times. bench list: each workload, its unit and its units in a pass.
+//! bench NAME REPEATS [CONTENDER]: one workload, over and over, for a profiler.
 
 use against::bench::rounds::{table, Row, ROUNDS};
 #[cfg(linked)]
@@ -16,9 +17,13 @@ fn main() -> ExitCode {
             print(&table());
             Ok(())
         }
+        ["list"] => {
+            ALL.iter().for_each(|(name, workload, unit)| println!("{name} {unit} {}", workload.units()));
+            Ok(())
+        }
         [name, repeats] => repeat(name, repeats, "ours"),
         [name, repeats, contender] => repeat(name, repeats, contender),
-        _ => Err("Give nothing, or NAME REPEATS, or NAME REPEATS and ours, second or tuned.".to_string()),
+        _ => Err("Give nothing, list, NAME REPEATS, or NAME REPEATS and ours, second or tuned.".to_string()),
     };
     match done {
         Ok(()) => ExitCode::SUCCESS,
