@@ -5,6 +5,7 @@ use super::tuned::Tuned;
 use second::{Format, State};
 
 pub trait Runner: Draws + Clone {
+    /// A fresh card once VB has risen, which it has not yet in a fresh state.
     fn fresh() -> Self;
     fn read(&mut self, address: u8) -> u16;
     /// From the command to its end, from VB high to VB high.
@@ -32,7 +33,7 @@ impl Draws for Ours {
 #[cfg(linked)]
 impl Runner for Ours {
     fn fresh() -> Ours {
-        Ours(crate::ffi::fresh(0).state)
+        Ours(crate::ffi::set_vb(crate::ffi::fresh(0).state, 1, &mut [0; 16_384]).state)
     }
 
     fn read(&mut self, address: u8) -> u16 {
@@ -66,7 +67,7 @@ impl Draws for Second {
 
 impl Runner for Second {
     fn fresh() -> Second {
-        Second(second::fresh(Format::Ef9366))
+        Second(second::set_vb(&second::fresh(Format::Ef9366), true, &mut [0; 16_384]).state)
     }
 
     fn read(&mut self, address: u8) -> u16 {
