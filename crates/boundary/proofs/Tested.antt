@@ -42,7 +42,6 @@ regs-good f h =
 
 -- what the test of `modes` and `signals` tells
 pub record Sound (f : Flat) : Type 0 where
-  pub format : formatIn f < 3
   pub modes : f .modes < 192
   pub signals : f .signals < 16
   pub pen : (bitAt 0 (f .signals) && penOpen (penAt (penIn f))) ≡ false
@@ -61,23 +60,21 @@ pen-shut true n small h = shut (n / 64) (omega (arith, leb-false 128 n (not-true
 pub modes-sound : (f : Flat) → soundModes f ≡ true → Sound f
 unfolding soundModes
 modes-sound f h =
-    let a = both (ltb (formatIn f) 3 && ltb (f .modes) 192 && ltb (f .signals) 16) (not (bitAt 0 (f .signals) && leb 128 (f .modes))) h in
-    let b = both (ltb (formatIn f) 3 && ltb (f .modes) 192) (ltb (f .signals) 16) (a .0) in
-    let c = both (ltb (formatIn f) 3) (ltb (f .modes) 192) (b .0) in
-    let small = ltb-true (f .modes) 192 (c .1) in
+    let a = both (ltb (f .modes) 192 && ltb (f .signals) 16) (not (bitAt 0 (f .signals) && leb 128 (f .modes))) h in
+    let b = both (ltb (f .modes) 192) (ltb (f .signals) 16) (a .0) in
+    let small = ltb-true (f .modes) 192 (b .0) in
     record {
-      format = ltb-true _ _ (c .0);
       modes = small;
       signals = ltb-true _ _ (b .1);
       pen = pen-shut (bitAt 0 (f .signals)) (f .modes) small (a .1);
     }
 
 -- such bytes stand for a state, where what runs is one of three and what is not in use is 0
-stands-for : (f : Flat) → Sound f → workIn f < 2 → f .modes / 16 % 4 ≡ 0 → (workIn f ≡ 1) ⊎ ((f .code ≡ 0) × (f .done ≡ 0)) → stands f ≡ true
+stands-for : (f : Flat) → Sound f → formatIn f < 3 → workIn f < 2 → f .modes / 16 % 4 ≡ 0 → (workIn f ≡ 1) ⊎ ((f .code ≡ 0) × (f .done ≡ 0)) → stands f ≡ true
 unfolding numbered tidy stands
-stands-for f s w z t =
+stands-for f s m w z t =
     rw (
-      lt-ltb (formatIn f) 3 (s .format),
+      lt-ltb (formatIn f) 3 m,
       lt-ltb (workIn f) 3 (omega (arith, w)),
       lt-ltb (penIn f) 3 (omega (arith, s .modes)),
       lt-ltb (f .signals) 16 (s .signals),
@@ -109,16 +106,16 @@ idle-at n c d a b e = rw (eq-eqb n 0 e) refl
 pub rest-from : (f : Flat) → atRest f ≡ true → Rest f
 unfolding atRest gdpOf
 rest-from f h =
-    let a = both (soundRegs f && soundModes f && eqb (f .modes / 4 % 16) 0 && eqb (f .code) 0) (eqb (f .done) 0) h in
-    let b = both (soundRegs f && soundModes f && eqb (f .modes / 4 % 16) 0) (eqb (f .code) 0) (a .0) in
-    let c = both (soundRegs f && soundModes f) (eqb (f .modes / 4 % 16) 0) (b .0) in
+    let a = both (soundRegs f && soundModes f && ltb (f .modes % 64) 3 && eqb (f .code) 0) (eqb (f .done) 0) h in
+    let b = both (soundRegs f && soundModes f && ltb (f .modes % 64) 3) (eqb (f .code) 0) (a .0) in
+    let c = both (soundRegs f && soundModes f) (ltb (f .modes % 64) 3) (b .0) in
     let d = both (soundRegs f) (soundModes f) (c .0) in
-    let z = eqb-true (f .modes / 4 % 16) 0 (c .1) in
+    let z = ltb-true (f .modes % 64) 3 (c .1) in
     let s = modes-sound f (d .1) in
     let none : workIn f ≡ 0 = omega (arith, z) in
     let idle = idle-at (workIn f) (f .code) (f .done) (bitAt 4 (f .modes)) (bitAt 5 (f .modes)) none in
     record {
-      stands = stands-for f s (omega (arith, none)) (omega (arith, z)) (inr (eqb-true _ _ (b .1), eqb-true _ _ (a .1)));
+      stands = stands-for f s (omega (arith, z)) (omega (arith, none)) (omega (arith, z)) (inr (eqb-true _ _ (b .1), eqb-true _ _ (a .1)));
       idle = idle;
       good = record { regs = regs-good f (d .0); work = rw idle tt; pen = s .pen };
       modes = s .modes;
@@ -167,17 +164,19 @@ steps-at n c d a b e = rw (ne-eqb n 0 (λ z. absurd (omega (arith, e, z))), eq-e
 pub runs-from : (f : Flat) → lineRuns f ≡ true → Runs f
 unfolding lineRuns gdpOf
 runs-from f h =
-    let a = both (soundRegs f && soundModes f && eqb (f .modes / 4 % 16) 1) (lineCode (f .code)) h in
-    let b = both (soundRegs f && soundModes f) (eqb (f .modes / 4 % 16) 1) (a .0) in
-    let c = both (soundRegs f) (soundModes f) (b .0) in
-    let z = eqb-true (f .modes / 4 % 16) 1 (b .1) in
+    let a = both (soundRegs f && soundModes f && leb 4 (f .modes % 64) && ltb (f .modes % 64) 7) (lineCode (f .code)) h in
+    let b = both (soundRegs f && soundModes f && leb 4 (f .modes % 64)) (ltb (f .modes % 64) 7) (a .0) in
+    let d = both (soundRegs f && soundModes f) (leb 4 (f .modes % 64)) (b .0) in
+    let c = both (soundRegs f) (soundModes f) (d .0) in
+    let low = leb-true 4 (f .modes % 64) (d .1) in
+    let high = ltb-true (f .modes % 64) 7 (b .1) in
     let s = modes-sound f (c .1) in
-    let one : workIn f ≡ 1 = omega (arith, z) in
+    let one : workIn f ≡ 1 = omega (arith, low, high) in
     record {
-      stands = stands-for f s (omega (arith, one)) (omega (arith, z)) (inl one);
+      stands = stands-for f s (omega (arith, low, high)) (omega (arith, one)) (omega (arith, low, high)) (inl one);
       vector = line-kind (f .code) (a .1);
       steps = steps-at (workIn f) (f .code) (f .done) (bitAt 4 (f .modes)) (bitAt 5 (f .modes)) one;
       regs = regs-good f (c .0);
       pen = s .pen;
-      modes = omega (arith, z);
+      modes = omega (arith, low);
     }

@@ -2,7 +2,7 @@
 -- A test that fails only means the long way.
 -- Assumes nothing.
 use mathlib.Core.Path.{_≡_}
-use Prim.Native.Nat.{ℕ, _+_, _-_, _/_, _%_, _≤_}
+use Prim.Native.Nat.{ℕ, _+_, _-_, _%_, _≤_}
 use mathlib.Core.Bool.{Bool, true, cond, not, _||_, _&&_}
 use mathlib.Core.List.{List}
 use lib.Dec.{eqb, ltb, leb}
@@ -21,19 +21,18 @@ unfoldable pub soundRegs : Flat → Bool
 soundRegs f = ltb (f .x) 4096 && ltb (f .y) 4096 && ltb (f .ctrl1) 128 && ltb (f .ctrl2) 16 && not (bitAt 1 (f .xlp))
 
 unfoldable pub soundModes : Flat → Bool
-soundModes f =
-    ltb (formatIn f) 3 && ltb (f .modes) 192 && ltb (f .signals) 16 && not (bitAt 0 (f .signals) && leb 128 (f .modes))
+soundModes f = ltb (f .modes) 192 && ltb (f .signals) 16 && not (bitAt 0 (f .signals) && leb 128 (f .modes))
 
--- nothing runs
+-- nothing runs: a format's number and no other bit below the pen's
 unfoldable pub atRest : Flat → Bool
-atRest f = soundRegs f && soundModes f && eqb (f .modes / 4 % 16) 0 && eqb (f .code) 0 && eqb (f .done) 0
+atRest f = soundRegs f && soundModes f && ltb (f .modes % 64) 3 && eqb (f .code) 0 && eqb (f .done) 0
 
 -- the codes of vectors; a vector runs
 unfoldable pub lineCode : ℕ → Bool
 lineCode c = leb 0x10 c && (ltb c 0x20 || leb 0x80 c)
 
 unfoldable pub lineRuns : Flat → Bool
-lineRuns f = soundRegs f && soundModes f && eqb (f .modes / 4 % 16) 1 && lineCode (f .code)
+lineRuns f = soundRegs f && soundModes f && leb 4 (f .modes % 64) && ltb (f .modes % 64) 7 && lineCode (f .code)
 
 -- an address at which a register is stored
 unfoldable pub setting : ℕ → Bool

@@ -27,7 +27,7 @@ fn are_modes_sound(f: Flat) -> bool
     ensures { λ r. ⌜ r ≡ soundModes f ⌝ }
 {
     let open = bit_at(f.signals, 0) & (128 <= f.modes);
-    (f.modes % 4 < 3) & (f.modes < 192) & (f.signals < 16) & !open
+    (f.modes < 192) & (f.signals < 16) & !open
 }
 
 pub fn is_at_rest(f: Flat) -> bool
@@ -35,7 +35,7 @@ pub fn is_at_rest(f: Flat) -> bool
 {
     let regs = are_regs_sound(f);
     let modes = are_modes_sound(f);
-    regs & modes & (f.modes / 4 % 16 == 0) & (f.code == 0) & (f.done == 0)
+    regs & modes & (f.modes % 64 < 3) & (f.code == 0) & (f.done == 0)
 }
 
 pub fn is_line_code(code: u8) -> bool
@@ -50,7 +50,7 @@ pub fn is_line_running(f: Flat) -> bool
     let regs = are_regs_sound(f);
     let modes = are_modes_sound(f);
     let line = is_line_code(f.code);
-    regs & modes & (f.modes / 4 % 16 == 1) & line
+    regs & modes & (4 <= f.modes % 64) & (f.modes % 64 < 7) & line
 }
 
 pub fn is_setting(address: u8) -> bool

@@ -7,7 +7,7 @@ use Rattle.boundary.proofs.short.are_modes_sound.Tie as tie
 
 returns : tie.Need-returns
 unfolding soundModes
-returns c = simp (c .before .before .before .before .bit-at .ensures)
+returns c = simp (c .before .before .before .bit-at .ensures)
 
 pub are-modes-sound-spec : {M : Type 1} → statement M
 are-modes-sound-spec = tie.close (tie.spec (λ c κs. search needs) returns)

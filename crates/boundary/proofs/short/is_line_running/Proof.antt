@@ -7,7 +7,7 @@ use Rattle.boundary.proofs.short.is_line_running.Tie as tie
 returns : tie.Need-returns
 unfolding lineRuns
 returns c =
-    let l = c .before in
+    let l = c .before .before in
     simp (l .is-line-code .ensures, l .before .are-modes-sound .ensures, l .before .before .are-regs-sound .ensures)
 
 pub is-line-running-spec : {M : Type 1} → statement M
