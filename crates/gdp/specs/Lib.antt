@@ -12,4 +12,5 @@ pub mod Runs
 pub mod Play
 pub mod Readings
 pub mod MoreReadings
+pub mod FineReadings
 pub mod Computed
