@@ -2,6 +2,7 @@
 
 use crate::call::{Call, Reply};
 use crate::card::Card;
+use crate::case::{Case, Promise};
 use crate::convert::{flattened, state_of};
 use crate::difference::Difference;
 use crate::draw::single::{self, Known};
@@ -28,6 +29,12 @@ pub fn compare(
         differ.step()?;
     }
     Ok(differ.tally)
+}
+
+/// Whose memories a call was lent.
+enum Place {
+    Run,
+    Single,
 }
 
 struct Differ<'a, L: Card, M: Card> {
@@ -76,7 +83,7 @@ impl<'a, L: Card, M: Card> Differ<'a, L, M> {
         let format = self.random.below(3) as u8;
         let call = Call::Fresh { format };
         let outcome = self.run.play(self.library, self.model, ALL_ONES, call);
-        self.settle(ALL_ONES, call, outcome, Known::Good)?;
+        self.settle(Place::Run, ALL_ONES, call, outcome, Known::Good)?;
         self.go_on_from(outcome);
         if self.random.flag() {
             // Half the runs begin inside some command instead.
@@ -92,7 +99,7 @@ impl<'a, L: Card, M: Card> Differ<'a, L, M> {
         };
         let call = run::next(&mut self.random, &state);
         let outcome = self.run.play(self.library, self.model, self.present, call);
-        self.settle(self.present, call, outcome, Known::Good)?;
+        self.settle(Place::Run, self.present, call, outcome, Known::Good)?;
         self.go_on_from(outcome);
         Ok(())
     }
@@ -108,7 +115,7 @@ impl<'a, L: Card, M: Card> Differ<'a, L, M> {
         let format = if self.random.flag() { self.random.below(4) as u8 } else { self.random.byte() };
         let call = Call::Fresh { format };
         let outcome = self.single.play(self.library, self.model, ALL_ONES, call);
-        self.settle(ALL_ONES, call, outcome, Known::Nothing)
+        self.settle(Place::Single, ALL_ONES, call, outcome, Known::Nothing)
     }
 
     fn single_call(&mut self) -> Result<(), Box<Difference>> {
@@ -120,30 +127,35 @@ impl<'a, L: Card, M: Card> Differ<'a, L, M> {
         let (state, known) = single::state(&mut self.random);
         let call = single::call(&mut self.random, &state);
         let outcome = self.single.play(self.library, self.model, state, call);
-        self.settle(state, call, outcome, known)
+        self.settle(Place::Single, state, call, outcome, known)
     }
 
     /// Counts a call on which all agree: both cards, and what was known of the state before.
     fn settle(
         &mut self,
+        place: Place,
         state: Flat,
         call: Call,
         outcome: Outcome,
         known: Known,
     ) -> Result<(), Box<Difference>> {
         let number = outcome.model.number();
-        self.tally.count(&call, number, known);
-        let unlike = match known {
-            Known::Good if number == 1 => Some("the state was drawn good"),
-            Known::Refused(_) if number != 1 => Some("a cause of refusal 1 was planted in the state"),
-            _ => None,
+        self.tally.count(&state, &call, number, known);
+        let promise = match known {
+            Known::Good => Some(Promise::Good),
+            Known::Refused(_) => Some(Promise::Bad),
+            Known::Nothing => None,
         };
-        if outcome.agrees() && unlike.is_none() {
+        if outcome.agrees() && promise.is_none_or(|promise| promise.is_kept(number)) {
             return Ok(());
         }
-        let calls = self.tally.calls;
+        let before = match place {
+            Place::Run => self.run.before().clone(),
+            Place::Single => self.single.before().clone(),
+        };
         // Where the cards differ, that is what is told.
-        let known = unlike.filter(|_| outcome.agrees());
-        Err(Box::new(Difference { seed: self.seed, calls, state, call, outcome, known }))
+        let promise = promise.filter(|_| outcome.agrees());
+        let case = Case { state, call, picture: before.picture, table: before.table, promise };
+        Err(Box::new(Difference::met(self.seed, self.tally.calls, case, outcome, self.library, self.model)))
     }
 }

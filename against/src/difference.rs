@@ -1,38 +1,76 @@
-//! A difference, told so that one command shows it again.
+//! A difference, told as one command that shows it by itself.
 
-use crate::call::{Call, Reply};
+use crate::call::Reply;
+use crate::card::Card;
+use crate::case::{Case, Promise};
 use crate::flat::Flat;
 use crate::lent::Fault;
 use crate::scene::Outcome;
+use crate::shrink::shrunk;
 use std::fmt::{Display, Formatter, Result};
 
-#[derive(Clone, Copy, PartialEq, Eq, Debug)]
+#[derive(Clone, PartialEq, Eq, Debug)]
 pub struct Difference {
     pub seed: u64,
-    /// The calls made, this one included. A shorter run from the same seed does not reach it.
+    /// The calls made, the differing one included. A shorter run from the same seed does not reach it.
     pub calls: u64,
-    pub state: Flat,
-    pub call: Call,
+    /// The smallest case found, and what both cards do with it.
+    pub case: Case,
     pub outcome: Outcome,
-    /// Why it counts as one although both cards agree: what was known of the state beforehand.
-    pub known: Option<&'static str>,
+    /// It shows by itself; else only the run shows it.
+    pub is_alone: bool,
+}
+
+impl Difference {
+    /// Shrinks a case that a run met, where it shows by itself too.
+    pub fn met(
+        seed: u64,
+        calls: u64,
+        case: Case,
+        outcome: Outcome,
+        library: &impl Card,
+        model: &impl Card,
+    ) -> Difference {
+        // A case that was met because a promise broke must go on to break it, and one that differs to differ.
+        let shows = |case: &Case| {
+            let outcome = case.play(library, model);
+            !case.is_settled(&outcome) && outcome.agrees() == case.promise.is_some()
+        };
+        if !shows(&case) {
+            return Difference { seed, calls, case, outcome, is_alone: false };
+        }
+        let case = shrunk(case, shows);
+        let outcome = case.play(library, model);
+        Difference { seed, calls, case, outcome, is_alone: true }
+    }
 }
 
 impl Display for Difference {
     fn fmt(&self, out: &mut Formatter) -> Result {
-        writeln!(out, "A difference at call {}. To see it again:", self.calls)?;
-        writeln!(out, "    differ {} {}", self.seed, self.calls)?;
-        writeln!(out, "call:    {}", self.call)?;
-        writeln!(out, "state:   {}", fields(&self.state))?;
-        writeln!(out, "library: {}", words(&self.outcome.library))?;
-        writeln!(out, "model:   {}", words(&self.outcome.model))?;
-        let (picture, table) = self.call.lends().unwrap_or((0, 0));
-        memory(out, "picture", picture, self.outcome.picture)?;
-        memory(out, "table", table, self.outcome.table)?;
-        match self.known {
-            Some(sentence) => writeln!(out, "Both agree, but {sentence}."),
-            None => Ok(()),
+        let Difference { seed, calls, case, outcome, is_alone } = self;
+        if *is_alone {
+            writeln!(out, "A difference. The smallest found, by itself:\n    differ call {case}")?;
+        } else {
+            writeln!(out, "A difference that does not show by itself.")?;
         }
+        told(out, case, outcome)?;
+        writeln!(out, "It was met by\n    differ {seed} {calls}")
+    }
+}
+
+/// What both cards did with a case.
+pub fn told(out: &mut impl std::fmt::Write, case: &Case, outcome: &Outcome) -> Result {
+    writeln!(out, "call:    {}", case.call)?;
+    writeln!(out, "state:   {}", fields(&case.state))?;
+    writeln!(out, "library: {}", words(&outcome.library))?;
+    writeln!(out, "model:   {}", words(&outcome.model))?;
+    memory(out, "picture", case.picture.len(), outcome.picture)?;
+    memory(out, "table", case.table.len(), outcome.table)?;
+    match case.promise {
+        Some(promise) if promise.is_kept(outcome.model.number()) => Ok(()),
+        Some(Promise::Good) => writeln!(out, "Both agree, but the state was drawn good."),
+        Some(Promise::Bad) => writeln!(out, "Both agree, but a cause of refusal 1 was planted in the state."),
+        None => Ok(()),
     }
 }
 
@@ -68,7 +106,7 @@ fn fields(s: &Flat) -> String {
     )
 }
 
-fn memory(out: &mut Formatter, name: &str, lent: usize, fault: Option<Fault>) -> Result {
+fn memory(out: &mut impl std::fmt::Write, name: &str, lent: usize, fault: Option<Fault>) -> Result {
     let Some(Fault { place, library, model }) = fault else {
         return Ok(());
     };

@@ -19,6 +19,51 @@ pub struct Flat {
     pub signals: u8,
 }
 
+impl Flat {
+    /// The sixteen bytes as they lie in memory; the 16-bit numbers have their lower byte first.
+    pub fn bytes(&self) -> [u8; 16] {
+        let ([x0, x1], [y0, y1]) = (self.x.to_le_bytes(), self.y.to_le_bytes());
+        let [done0, done1] = self.done.to_le_bytes();
+        [
+            x0,
+            x1,
+            y0,
+            y1,
+            done0,
+            done1,
+            self.ctrl1,
+            self.ctrl2,
+            self.csize,
+            self.deltax,
+            self.deltay,
+            self.xlp,
+            self.ylp,
+            self.code,
+            self.modes,
+            self.signals,
+        ]
+    }
+
+    pub fn of(bytes: [u8; 16]) -> Flat {
+        let word = |place: usize| u16::from_le_bytes([bytes[place], bytes[place + 1]]);
+        Flat {
+            x: word(0),
+            y: word(2),
+            done: word(4),
+            ctrl1: bytes[6],
+            ctrl2: bytes[7],
+            csize: bytes[8],
+            deltax: bytes[9],
+            deltay: bytes[10],
+            xlp: bytes[11],
+            ylp: bytes[12],
+            code: bytes[13],
+            modes: bytes[14],
+            signals: bytes[15],
+        }
+    }
+}
+
 #[repr(C)]
 #[derive(Clone, Copy, PartialEq, Eq, Debug)]
 pub struct FlatAnswer {

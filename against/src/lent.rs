@@ -39,6 +39,20 @@ impl Lent {
         Lent { library: bytes.clone(), model: bytes }
     }
 
+    /// Room for as much, the lent part as given.
+    pub fn holding(longest: usize, bytes: &[u8]) -> Lent {
+        let mut lent = Lent::new(longest);
+        for memory in [&mut lent.library, &mut lent.model] {
+            memory[GUARD..GUARD + bytes.len()].copy_from_slice(bytes);
+        }
+        lent
+    }
+
+    /// The lent part, while both still have the same.
+    pub fn lent(&self, length: usize) -> &[u8] {
+        &self.library[GUARD..GUARD + length]
+    }
+
     /// The same new content for both, guards and all.
     pub fn refill(&mut self, random: &mut Random) {
         random.fill(&mut self.library);

@@ -6,7 +6,9 @@ pub mod bench;
 pub mod bridge;
 pub mod call;
 pub mod card;
+pub mod case;
 pub mod convert;
+pub mod coverage;
 pub mod differ;
 pub mod difference;
 pub mod draw;
@@ -21,4 +23,5 @@ pub mod random;
 pub mod scene;
 #[cfg(not(linked))]
 pub mod shared;
+pub mod shrink;
 pub mod tally;

@@ -13,6 +13,14 @@ pub const LONGEST_TABLE: usize = 1_000;
 pub struct Scene {
     pub picture: Lent,
     pub table: Lent,
+    before: Before,
+}
+
+/// The memories that the last call was lent, as they were before it.
+#[derive(Clone, Default, PartialEq, Eq, Debug)]
+pub struct Before {
+    pub picture: Vec<u8>,
+    pub table: Vec<u8>,
 }
 
 /// What both cards did with one call.
@@ -32,11 +40,23 @@ impl Outcome {
 
 impl Default for Scene {
     fn default() -> Scene {
-        Scene { picture: Lent::new(LONGEST_PICTURE), table: Lent::new(LONGEST_TABLE) }
+        Scene::holding(&[], &[])
     }
 }
 
 impl Scene {
+    pub fn holding(picture: &[u8], table: &[u8]) -> Scene {
+        Scene {
+            picture: Lent::holding(LONGEST_PICTURE, picture),
+            table: Lent::holding(LONGEST_TABLE, table),
+            before: Before::default(),
+        }
+    }
+
+    pub fn before(&self) -> &Before {
+        &self.before
+    }
+
     /// A dark, a lit or a random picture, and a random table.
     pub fn renew(&mut self, random: &mut Random) {
         match random.below(4) {
@@ -49,6 +69,10 @@ impl Scene {
 
     pub fn play(&mut self, library: &impl Card, model: &impl Card, state: Flat, call: Call) -> Outcome {
         let (picture, table) = call.lends().unwrap_or((0, 0));
+        self.before.picture.clear();
+        self.before.picture.extend_from_slice(self.picture.lent(picture));
+        self.before.table.clear();
+        self.before.table.extend_from_slice(self.table.lent(table));
         let of_library = (self.picture.to_library(picture), self.table.to_library(table));
         let library = call.made(library, state, of_library.0, of_library.1);
         let of_model = (self.picture.to_model(picture), self.table.to_model(table));

@@ -1,13 +1,18 @@
 //! What a run has covered.
 
 use crate::call::{Call, KINDS};
+use crate::coverage::Coverage;
 use crate::draw::codes::{class_of, CLASSES};
 use crate::draw::single::{causes, Known};
+use crate::flat::Flat;
 use std::fmt::{Display, Formatter, Result};
 
 /// A run this long must have met everything often enough.
-pub const WHOLE_RUN: u64 = 200_000;
+pub const WHOLE_RUN: u64 = 500_000;
+/// Each kind of call, number, class of command and cause of refusal 1.
 const OFTEN: u64 = 100;
+/// Each row of the finer counts.
+const SOME: u64 = 20;
 
 pub struct Tally {
     pub calls: u64,
@@ -15,6 +20,7 @@ pub struct Tally {
     numbers: [u64; 256],
     commands: [u64; CLASSES.len()],
     causes: Vec<(&'static str, u64)>,
+    finer: Coverage,
 }
 
 impl Default for Tally {
@@ -25,13 +31,15 @@ impl Default for Tally {
             numbers: [0; 256],
             commands: [0; CLASSES.len()],
             causes: causes().map(|name| (name, 0)).collect(),
+            finer: Coverage::default(),
         }
     }
 }
 
 impl Tally {
-    pub fn count(&mut self, call: &Call, number: u8, known: Known) {
+    pub fn count(&mut self, state: &Flat, call: &Call, number: u8, known: Known) {
         self.calls += 1;
+        self.finer.count(state, call, number);
         self.kinds[call.kind()] += 1;
         self.numbers[usize::from(number)] += 1;
         if let (Call::Write { address: 0, value }, 0) = (call, number) {
@@ -52,15 +60,17 @@ impl Tally {
         if self.calls < WHOLE_RUN {
             return Vec::new();
         }
-        let seldom = |what: String, count: u64| {
-            (count < OFTEN).then(|| format!("Only {count} calls, where at least {OFTEN} are wanted: {what}."))
+        let below = |least: u64, what: String, count: u64| {
+            (count < least).then(|| format!("Only {count} calls, where at least {least} are wanted: {what}."))
         };
+        let seldom = |what: String, count: u64| below(OFTEN, what, count);
         let kinds = KINDS.iter().zip(self.kinds).filter_map(|(name, n)| seldom(name.to_string(), n));
         let numbers = (0..9).filter_map(|number| seldom(format!("number {number}"), self.numbers[number]));
         let commands =
             CLASSES.iter().zip(self.commands).filter_map(|((_, name), n)| seldom(name.to_string(), n));
         let causes = self.causes.iter().filter_map(|(name, n)| seldom(format!("refusal 1 for {name}"), *n));
-        kinds.chain(numbers).chain(commands).chain(causes).collect()
+        let finer = self.finer.rows().into_iter().filter_map(|(what, n)| below(SOME, what, n));
+        kinds.chain(numbers).chain(commands).chain(causes).chain(finer).collect()
     }
 }
 
@@ -75,7 +85,14 @@ impl Display for Tally {
         writeln!(out, "Commands accepted")?;
         rows(out, CLASSES.iter().map(|(_, name)| *name).zip(self.commands))?;
         writeln!(out, "Causes of refusal 1, each planted by itself")?;
-        rows(out, self.causes.iter().copied())
+        rows(out, self.causes.iter().copied())?;
+        let mut finer = self.finer.rows();
+        finer.sort_by_key(|(_, count)| *count);
+        writeln!(out, "Of {} finer rows, those met least", finer.len())?;
+        for (name, count) in finer.iter().take(5) {
+            writeln!(out, "{count:>10}  {name}")?;
+        }
+        Ok(())
     }
 }
 

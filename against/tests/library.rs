@@ -1,4 +1,4 @@
-//! The library and the model, given the same 200,000 calls.
+//! The library and the model, given the same 500,000 calls.
 
 use against::differ::compare;
 use against::library::Library;

@@ -1,6 +1,8 @@
-//! A card with one fault is noticed, and told so that the same command shows it again.
+//! A card with one fault is noticed, and told as one small call that shows it again by itself.
 
+use against::call::Call;
 use against::card::Card;
+use against::case::Case;
 use against::differ::compare;
 use against::difference::Difference;
 use against::flat::{Flat, FlatAddress, FlatAnswer, READY_FLAG, SIGNALS, VB};
@@ -112,39 +114,70 @@ fn again<'a>(part: &'a mut Part) -> Part<'a> {
 
 const SEED: u64 = 5;
 
-/// Found within a whole run; shown by the calls told, and not by one fewer.
+/// Found within a whole run; shown by the calls told, and not by one fewer; and shown by the one call told, which the
+/// right card answers as it should.
 fn noticed(fault: Fault) -> Difference {
     let found = |calls| compare(&Wrong(fault), &Model, SEED, calls).err();
     let told = found(WHOLE_RUN).expect("the fault is noticed");
     assert_eq!(found(told.calls), Some(told.clone()));
     assert_eq!(found(told.calls - 1), None);
     assert!(told.to_string().contains(&format!("differ {SEED} {}\n", told.calls)));
+    let case = repeated(&told);
+    let outcome = case.play(&Wrong(fault), &Model);
+    assert_eq!(outcome, told.outcome);
+    assert!(!case.is_settled(&outcome));
+    assert!(case.is_settled(&case.play(&Model, &Model)));
     *told
+}
+
+/// The case that the words of the told command give.
+fn repeated(told: &Difference) -> Case {
+    let text = told.to_string();
+    let command = text.lines().find_map(|line| line.trim().strip_prefix("differ call ")).expect("a command");
+    let words: Vec<String> = command.split(' ').map(str::to_string).collect();
+    Case::of(&words).unwrap_or_else(|sentence| panic!("{command}: {sentence}"))
+}
+
+/// The command is the smallest there is for the fault, worked out by hand.
+fn told_as(told: &Difference, command: &str) {
+    assert!(told.to_string().contains(&format!("\n    differ call {command}\n")), "{told}");
 }
 
 #[test]
 fn a_wrong_number() {
-    let told = noticed(Fault::Number).to_string();
+    let told = noticed(Fault::Number);
+    let text = told.to_string();
     assert!(
-        told.contains("library: number 7, value 0") && told.contains("model:   number 6, value 0"),
-        "{told}"
+        text.contains("library: number 7, value 0") && text.contains("model:   number 6, value 0"),
+        "{text}"
     );
+    assert!(matches!(told.case.call, Call::Write { address: 0, value: 0x20 }), "{text}");
+    assert_eq!(told.case.state.ctrl2, 4, "{text}");
 }
 
 #[test]
 fn a_wrong_value() {
-    noticed(Fault::Value);
+    // A vector of one dot, granted two cycles; nothing in either memory matters.
+    let told = noticed(Fault::Value);
+    assert!(matches!(told.case.call, Call::Grant { n: 2, table: 480, .. }), "{told}");
+    assert!(told.case.picture.iter().chain(&told.case.table).all(|byte| *byte == 0), "{told}");
 }
 
 #[test]
 fn a_wrong_state() {
-    noticed(Fault::State);
+    // XLP's lowest bit alone is needed.
+    told_as(&noticed(Fault::State), "read 00000000000000001100000100000000 0D");
 }
 
 #[test]
 fn a_wrong_picture() {
-    let fault = noticed(Fault::Picture).outcome.picture.expect("the picture differs");
+    let told = noticed(Fault::Picture);
+    let fault = told.outcome.picture.expect("the picture differs");
     assert!([8_191, 16_383, 32_767].contains(&fault.place));
+    // One bit of the last byte is enough to show it.
+    let lit: Vec<usize> =
+        (0..told.case.picture.len()).filter(|place| told.case.picture[*place] != 0).collect();
+    assert_eq!(lit, [fault.place as usize], "{told}");
 }
 
 #[test]
@@ -162,29 +195,36 @@ fn a_changed_table() {
 
 #[test]
 fn wrong_address_outputs() {
-    noticed(Fault::Lines);
+    // A fresh card in FMAT low.
+    told_as(&noticed(Fault::Lines), "address 00000000000000001100000000000200");
 }
 
 #[test]
 fn a_mended_state() {
-    noticed(Fault::Mended);
+    let told = noticed(Fault::Mended);
+    assert!(matches!(told.case.call, Call::Lpck { h: 0, v: 0 }), "{told}");
+    assert_eq!(told.case.state.signals, 0x10, "{told}");
 }
 
 #[test]
 fn a_wrong_fresh_state() {
-    noticed(Fault::Fresh);
+    told_as(&noticed(Fault::Fresh), "fresh 00");
 }
 
 #[test]
 fn an_impossible_state_taken_as_good() {
-    noticed(Fault::Lenient);
+    told_as(&noticed(Fault::Lenient), "lpck 00100000000000001100000000000000 0 0");
 }
 
 /// Where both cards share the fault, what was planted in the state still tells.
 #[test]
 fn a_fault_of_both_cards() {
     let told = compare(&Wrong(Fault::Lenient), &Wrong(Fault::Lenient), SEED, WHOLE_RUN).err();
-    assert!(told.is_some_and(|told| told.to_string().contains("Both agree, but")));
+    let told = told.expect("the fault is noticed");
+    assert!(told.to_string().contains("Both agree, but a cause of refusal 1"), "{told}");
+    let case = repeated(&told);
+    assert!(!case.is_settled(&case.play(&Wrong(Fault::Lenient), &Wrong(Fault::Lenient))));
+    assert!(case.is_settled(&case.play(&Model, &Model)));
 }
 
 #[test]
@@ -192,5 +232,18 @@ fn a_whole_run_that_met_nothing_says_so() {
     let mut tally = Tally::default();
     assert!(tally.gaps().is_empty());
     tally.calls = WHOLE_RUN;
-    assert!(tally.gaps().iter().any(|gap| gap.contains("refusal 1 for 0E running")));
+    for row in ["refusal 1 for 0E running", "command FF accepted", "address F read", "a table of no length"] {
+        assert!(tally.gaps().iter().any(|gap| gap.contains(row)), "{row}");
+    }
+}
+
+#[test]
+fn words_that_are_no_call() {
+    let given = ["", "write", "write 00 0 0", "read 00000000000000001100000000000000 100", "fresh GG"];
+    let grants = ["65536 16384 480", "1 40001 480", "1 16384:16384=01 480", "1 16384:5 480"];
+    let grants = grants.map(|rest| format!("grant 00000000000000001100000000000000 {rest}"));
+    for text in given.into_iter().chain(grants.iter().map(String::as_str)) {
+        let words: Vec<String> = text.split(' ').map(str::to_string).collect();
+        assert!(Case::of(&words).is_err(), "{text}");
+    }
 }

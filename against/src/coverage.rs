@@ -1,0 +1,166 @@
+//! The finer counts of a run: single codes and addresses, formats, lengths lent, sizes of grants, and the moments of VB
+//! calls and LPCK edges.
+
+use crate::call::Call;
+use crate::convert::{format_number, state_of};
+use crate::draw::arguments::{bytes, TABLE_BYTES};
+use crate::draw::count;
+use crate::flat::Flat;
+use second::{Pen, State, Work};
+
+const LENGTHS: [&str; 4] = ["the right length", "no length", "a shorter one", "a longer one"];
+const FORMATS: [&str; 3] = ["EF9366", "FMAT high", "FMAT low"];
+const WORKS: [&str; 4] = ["idle", "stepping", "a clear waiting", "a clear in its frame"];
+const PENS: [&str; 3] = ["no pen sequence", "the pen waiting", "the pen in its frame"];
+const LEVELS: [&str; 2] = ["low", "high"];
+
+/// No grant finds more cycles left than 12,288, and a part is less.
+const PARTS: usize = 15;
+
+pub struct Coverage {
+    commands: [u64; 256],
+    written: [u64; 16],
+    read: [u64; 16],
+    formats: [u64; 3],
+    pictures: [u64; 4],
+    tables: [u64; 4],
+    /// By how many binary digits n has.
+    grants: [u64; 17],
+    /// Grants of some cycles that leave some, likewise.
+    parts: [u64; PARTS],
+    /// By the moment, and the level that is set.
+    blankings: [[u64; 2]; MOMENTS],
+    edges: [u64; MOMENTS],
+}
+
+/// Of what runs, the pen's sequence and VB.
+const MOMENTS: usize = 4 * 3 * 2;
+
+impl Default for Coverage {
+    fn default() -> Coverage {
+        Coverage {
+            commands: [0; 256],
+            written: [0; 16],
+            read: [0; 16],
+            formats: [0; 3],
+            pictures: [0; 4],
+            tables: [0; 4],
+            grants: [0; 17],
+            parts: [0; PARTS],
+            blankings: [[0; 2]; MOMENTS],
+            edges: [0; MOMENTS],
+        }
+    }
+}
+
+impl Coverage {
+    pub fn count(&mut self, flat: &Flat, call: &Call, number: u8) {
+        if number == 1 {
+            return;
+        }
+        if let Call::Fresh { format } = call {
+            self.formats[usize::from(*format)] += 1;
+            return;
+        }
+        let state = state_of(flat).expect("a state that was not refused with 1");
+        self.formats[usize::from(format_number(state.format))] += 1;
+        match *call {
+            Call::Write { address, value } => self.count_write(address, value, number),
+            Call::Read { address: address @ 0..=15 } => self.read[usize::from(address)] += 1,
+            Call::Grant { n, picture, table } => {
+                self.pictures[length(picture, bytes(state.format))] += 1;
+                self.tables[length(table, TABLE_BYTES)] += 1;
+                if number == 0 {
+                    self.count_grant(n, count::rest(&state));
+                }
+            }
+            Call::SetVb { level, picture } => {
+                self.pictures[length(picture, bytes(state.format))] += 1;
+                if number == 0 {
+                    self.blankings[moment(&state)][usize::from(level != 0)] += 1;
+                }
+            }
+            Call::Lpck { .. } if number == 0 => self.edges[moment(&state)] += 1,
+            _ => {}
+        }
+    }
+
+    fn count_write(&mut self, address: u8, value: u8, number: u8) {
+        if address < 16 {
+            self.written[usize::from(address)] += 1;
+        }
+        if address == 0 && number == 0 {
+            self.commands[usize::from(value)] += 1;
+        }
+    }
+
+    fn count_grant(&mut self, n: u16, rest: u16) {
+        self.grants[digits(n)] += 1;
+        if 0 < n && n < rest {
+            self.parts[digits(n)] += 1;
+        }
+    }
+
+    /// Each row that a whole run must meet, with its count.
+    pub fn rows(&self) -> Vec<(String, u64)> {
+        let mut rows = Vec::new();
+        let mut add = |name: String, count: u64| rows.push((name, count));
+        self.commands
+            .iter()
+            .enumerate()
+            .for_each(|(code, n)| add(format!("command {code:02X} accepted"), *n));
+        self.written.iter().enumerate().for_each(|(at, n)| add(format!("address {at:X} written"), *n));
+        self.read.iter().enumerate().for_each(|(at, n)| add(format!("address {at:X} read"), *n));
+        FORMATS.iter().zip(self.formats).for_each(|(name, n)| add(format!("a call on the {name}"), n));
+        LENGTHS.iter().zip(self.pictures).for_each(|(name, n)| add(format!("a picture of {name}"), n));
+        LENGTHS.iter().zip(self.tables).for_each(|(name, n)| add(format!("a table of {name}"), n));
+        self.grants.iter().enumerate().for_each(|(d, n)| add(format!("a grant of {d} binary digits"), *n));
+        let parts = self.parts.iter().enumerate().skip(1);
+        parts.for_each(|(d, n)| add(format!("part of a command by a grant of {d} binary digits"), *n));
+        for (moment, name) in possible_moments() {
+            add(format!("an LPCK edge when {name}"), self.edges[moment]);
+            for (level, to) in LEVELS.iter().enumerate() {
+                add(format!("VB set {to} when {name}"), self.blankings[moment][level]);
+            }
+        }
+        rows
+    }
+}
+
+/// Its place in LENGTHS.
+fn length(lent: usize, right: usize) -> usize {
+    match lent {
+        _ if lent == right => 0,
+        0 => 1,
+        _ if lent < right => 2,
+        _ => 3,
+    }
+}
+
+fn digits(n: u16) -> usize {
+    (u16::BITS - n.leading_zeros()) as usize
+}
+
+fn moment(state: &State) -> usize {
+    let work = match state.work {
+        Work::Idle => 0,
+        Work::Steps { .. } => 1,
+        Work::Clear { open: false, .. } => 2,
+        Work::Clear { open: true, .. } => 3,
+    };
+    let pen = match state.pen {
+        Pen::Off => 0,
+        Pen::Waiting => 1,
+        Pen::Open => 2,
+    };
+    (work * 3 + pen) * 2 + usize::from(state.vb)
+}
+
+/// VB is low inside an open frame.
+fn possible_moments() -> impl Iterator<Item = (usize, String)> {
+    (0..MOMENTS).filter_map(|moment| {
+        let (work, pen, vb) = (moment / 6, moment / 2 % 3, moment % 2);
+        let possible = vb == 0 || (work != 3 && pen != 2);
+        possible.then(|| (moment, format!("{}, {}, VB {}", WORKS[work], PENS[pen], LEVELS[vb])))
+    })
+}
