@@ -29,9 +29,22 @@ dot-byte k x y = omega (arith, mul-left-comm y 8 k)
 pub dot-bit : (k x y : ℕ) → (y * (8 * k) + x) % 8 ≡ x % 8
 dot-bit k x y = omega (arith, mul-left-comm y 8 k)
 
+-- a power of two is above 0
+pub power-some : {n : ℕ} → Power n → 0 < n
+power-some p = rw (p .1) (pow-pos (p .0))
+
 -- a position in the window has a dot in the picture
 pub in-window : (w h n x y : ℕ) → Screen w h n → x < w → y < h → y * w + x < 8 * n
 in-window w h n x y s hx hy = omega (arith, mul-le-mul-right w hy, suc-mul y w, mul-comm w h, s .area)
+
+-- so do k positions of one row
+pub row-in : (w h n x y k : ℕ) → Screen w h n → x + k ≤ w → y < h → (y * w + x) + k ≤ 8 * n
+row-in w h n x y k s hx hy = omega (arith, mul-le-mul-right w hy, suc-mul y w, mul-comm w h, s .area)
+
+-- the numbers that the code goes through, one row past the window's last included, are small
+pub row-small : (w h n y : ℕ) → Screen w h n → y ≤ h → (y * w ≤ 524288) × (w ≤ 524288)
+row-small w h n y s hy =
+    (omega (arith, mul-le-mul-right w hy, mul-comm w h, s .area, s .small), omega (arith, row-in w h n 0 0 w s (omega arith) (power-some (s .high)), s .small))
 
 -- and no other position of the window has it
 pub same-place : (w x y u v : ℕ) → x < w → u < w → y * w + x ≡ v * w + u → (x ≡ u) × (y ≡ v)
@@ -40,10 +53,7 @@ same-place w x y u v hx hu e =
     let row : y ≡ v = sym (row-of w x y hx pos) ∙ ap (λ (n : ℕ). n / w) e ∙ row-of w u v hu pos in
     (omega (arith, ap (λ (n : ℕ). n * w) row), row)
 
--- a power of two is above 0, and a mask of its bits is the remainder
-pub power-some : {n : ℕ} → Power n → 0 < n
-power-some p = rw (p .1) (pow-pos (p .0))
-
+-- below a power of two a mask of its bits is the remainder
 pub fold-mask : (n p : ℕ) → Power n → bitAnd p (n - 1) ≡ folded true n p
 fold-mask n p h = rw (h .1) (and-mask p (h .0))
 

@@ -5,6 +5,7 @@ use Prim.Native.Nat.{ℕ, _+_, _*_, _%_, _^_, _≤_}
 use mathlib.Core.Bool.{Bool, true, false, cond, _&&_}
 use mathlib.Core.List.{List, [], _∷_}
 use lib.Dec.{ltb}
+use Rattle.picture.specs.Dot.{gathered, upFrom}
 
 -- a coordinate as the dot sees it: a cyclic screen of n dots ignores the unused upper bits
 abbrev pub folded : Bool → ℕ → ℕ → ℕ
@@ -21,6 +22,10 @@ place cyclic w h x y =
     cond (ltb (folded cyclic w x) w && ltb (folded cyclic h y) h)
     (dotNumber w (folded cyclic w x) (folded cyclic h y) ∷ [])
     []
+
+-- the n by m dots whose lower left one is (x, y), row after row
+abbrev pub box : ℕ → ℕ → ℕ → ℕ → ℕ → List ℕ
+box w x y n m = gathered (λ r. upFrom (dotNumber w x r) n) y m
 
 -- n is a power of two
 abbrev pub Power : ℕ → Type 0

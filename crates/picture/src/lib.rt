@@ -2,4 +2,5 @@
 // Proved: each call leaves exactly the picture that specs/ names. It knows no chip.
 // Assumes nothing.
 pub mod dot;
+pub mod run;
 pub mod screen;
