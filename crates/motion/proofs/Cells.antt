@@ -1,15 +1,16 @@
 -- The laws of a cell: its counters go up with its cycle, and its place with them.
 -- Assumes nothing.
 use mathlib.Core.Path.{_≡_, ap, _∙_}
-use mathlib.Core.Bool.{Bool, cond}
-use Prim.Native.Nat.{ℕ, _+_, _/_, _%_, _≤_, _<_}
+use mathlib.Core.Bool.{Bool, true, false, cond}
+use Prim.Native.Nat.{ℕ, _+_, _*_, _/_, _%_, _≤_, _<_}
+use native.Mathlib.Nat.{add-mul, one-mul}
 use native.Mathlib.Omega.{arith}
 use Rattle.motion.specs.Position.{ahead, behind}
 use Rattle.motion.specs.Character.{uOf, vOf, columnOf, rowOf, Sized, Counts, OnPlace}
 use Rattle.motion.specs.declared.character.Body.{Body}
 use Rattle.motion.specs.declared.character.Cell.{Cell}
-use Rattle.motion.proofs.Counting.{Splits, split-le}
-use Rattle.motion.proofs.Characters.{split-cycle, v-lt, rise-x, rise-y, carry-x, carry-y}
+use Rattle.motion.proofs.Counting.{Splits, splits, whole, split-le}
+use Rattle.motion.proofs.Characters.{split-cycle, v-lt, x-at, y-at, rise-x, rise-y, carry-x, carry-y}
 
 -- the counters are the quotients and remainders of i, v and u
 module _ {b : Body} {c : Cell} where
@@ -67,4 +68,30 @@ module _ {turned : Bool} {b : Body} {c r : Cell} (s : Sized b) (g : Counts b c) 
       record {
         x = rw (next, to .0, on .x, g .v) (carry-x b s turned (c .i) x over);
         y = rw (next, to .1, on .y, g .v) (carry-y b s turned (c .i) y over);
+      }
+
+-- at the first cycle of a column of the glyph, P columns of dots further is the first cycle of the next
+module _ {b : Body} {c : Cell} (s : Sized b) (g : Counts b c) (foot : c .v ≡ 0) where
+  pub split-past : Splits (c .i + b .p * b .rows) (b .rows) (uOf b (c .i) + b .p) 0
+  split-past =
+      let at = whole (split-i g) in
+      splits (uOf b (c .i) + b .p) (s .rows0) (simp add-mul (omega arith))
+
+  pub split-next : c .columndot ≡ 0 → Splits (uOf b (c .i) + b .p) (b .p) (c .column + 1) 0
+  split-next first =
+      let at = whole (split-u g) in
+      splits (c .column + 1) (s .p0) (simp (add-mul, one-mul) (omega arith))
+
+  pub on-passed : (turned : Bool) {r : Cell} → r .i ≡ c .i + b .p * b .rows
+      → (r .x ≡ cond turned (c .x) (ahead (c .x) (b .p))) × (r .y ≡ cond turned (ahead (c .y) (b .p)) (c .y))
+      → (x y : ℕ) → OnPlace turned b x y c → OnPlace turned b x y r
+  on-passed true next to x y on =
+      record {
+        x = rw (next, to .0, on .x, x-at true b split-past, x-at true b (split-i g), foot);
+        y = rw (next, to .1, on .y, y-at true b split-past, y-at true b (split-i g)) (omega arith);
+      }
+  on-passed false next to x y on =
+      record {
+        x = rw (next, to .0, on .x, x-at false b split-past, x-at false b (split-i g)) (omega arith);
+        y = rw (next, to .1, on .y, y-at false b split-past, y-at false b (split-i g), foot);
       }

@@ -1,7 +1,7 @@
 // How a character steps: by counters, so that no cycle costs a division.
 ghost use mathlib.Core.Path.{_≡_};
 ghost use mathlib.Core.Bool.{Bool, cond};
-ghost use Prim.Native.Nat.{ℕ, _+_, _≤_, _<_};
+ghost use Prim.Native.Nat.{ℕ, _+_, _*_, _≤_, _<_};
 ghost use Rattle.motion.specs.Position.{ahead, behind};
 ghost use Rattle.motion.specs.Character.{scale, characterOf, blockOf, bodyX, bodyY, Sized, Counts, OnPlace};
 use crate::position::backward;
@@ -171,6 +171,41 @@ pub fn next_cell(turned: bool, b: Body, c: Cell) -> Cell
         x: to.x,
         y: to.y,
         i: i,
+        v: 0,
+        row: 0,
+        rowdot: 0,
+        column: c.column + 1,
+        columndot: 0,
+    }
+}
+
+// So many columns of dots further: to the right; turned, up.
+fn passed(turned: bool, columns: u16, x: u16, y: u16) -> Spot
+    ensures { λ r. ⌜ (r .x ≡ cond turned x (ahead x columns)) × (r .y ≡ cond turned (ahead y columns) y) ⌝ }
+{
+    if turned {
+        Spot {
+            x: x,
+            y: forward(y, columns),
+        }
+    } else {
+        Spot {
+            x: forward(x, columns),
+            y: y,
+        }
+    }
+}
+
+// From the first cycle of a column of the glyph to that of the next, P columns of dots further.
+pub fn next_column(turned: bool, b: Body, c: Cell) -> Cell
+    requires { ⌜ Sized b × Counts b c × (c .v ≡ 0) × (c .columndot ≡ 0) × (c .i + b .p * b .rows ≤ 20000) ⌝ }
+    ensures { λ r. ⌜ (r .i ≡ c .i + b .p * b .rows) × Counts b r × ((x y : ℕ) → OnPlace turned b x y c → OnPlace turned b x y r) ⌝ }
+{
+    let to = passed(turned, b.p, c.x, c.y);
+    Cell {
+        x: to.x,
+        y: to.y,
+        i: c.i + b.p * b.rows,
         v: 0,
         row: 0,
         rowdot: 0,
