@@ -9,7 +9,7 @@ use native.Mathlib.Omega.{arith}
 use lib.ListN.{length}
 use Rattle.picture.specs.Dot.{paint, gathered}
 use Rattle.picture.specs.Screen.{Screen}
-use Rattle.picture.proofs.Dots.{paint-length, paint-more}
+use Rattle.picture.proofs.Dots.{paint-length, paint-more, paint-further}
 use Rattle.motion.specs.declared.vector.Line.{Line}
 use Rattle.motion.specs.declared.vector.Stroke.{Stroke}
 use Rattle.motion.specs.declared.character.Body.{Body}
@@ -36,6 +36,11 @@ module _ {lit : Bool} {dot : ℕ → List ℕ} {from : ℕ} {p : List ℕ} where
     pub more : {j : ℕ} {here r : List ℕ} → j ≡ i + 1 → here ≡ dot i → r ≡ paint lit here q → Done lit dot from p (k + 1) j r
     more e h paints =
         record { number = omega arith; picture = paints ∙ rw (h, d .number, d .picture, paint-more lit dot from k p) }
+
+    -- m cycles more, whose dots are those of the cycles from i on
+    pub further : (m : ℕ) {j : ℕ} {here r : List ℕ} → j ≡ i + m → here ≡ gathered dot i m → r ≡ paint lit here q → Done lit dot from p (k + m) j r
+    further m e h paints =
+        record { number = omega arith; picture = paints ∙ rw (h, d .number, d .picture, paint-further lit dot from k m p) }
 
     -- the picture keeps its length
     pub size : length q ≡ length p

@@ -5,7 +5,7 @@ use Prim.Native.Nat.{ℕ, _+_, min}
 use mathlib.Core.Bool.{Bool, cond, _&&_}
 use mathlib.Core.List.{List, []}
 use Rattle.picture.specs.Dot.{paint, gathered}
-use Rattle.picture.specs.Screen.{place}
+use Rattle.picture.specs.Screen.{place, box}
 use Rattle.motion.specs.declared.vector.Line.{Line}
 use Rattle.motion.specs.declared.character.Body.{Body}
 use Rattle.motion.specs.Position.{ahead, behind}
@@ -20,6 +20,10 @@ use Rattle.drawing.specs.declared.tip.Spot.{Spot}
 -- the dot of a cycle that is on, at a place; none where the tip is up
 unfoldable pub mark : Tip → Bool → ℕ → ℕ → List ℕ
 mark t on x y = cond (t .down && on) (place (t .cyclic) (t .width) (t .height) x y) []
+
+-- the dots of cycles that are on alike, n by m of them, the lower left one at a place inside the window
+unfoldable pub markBox : Tip → Bool → ℕ → ℕ → ℕ → ℕ → List ℕ
+markBox t on x y n m = cond (t .down && on) (box (t .width) x y n m) []
 
 -- dot i of a vector that starts at (x₀, y₀), by the line type of CTRL2
 unfoldable pub vectorDot : Tip → ℕ → Line → ℕ → ℕ → ℕ → List ℕ

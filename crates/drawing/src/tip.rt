@@ -1,9 +1,11 @@
 // The tip of the pen or eraser, over its window.
 ghost use mathlib.Core.Path.{_≡_};
+ghost use Prim.Native.Nat.{_+_, _≤_};
 ghost use lib.ListN.{length};
 ghost use Rattle.picture.specs.Dot.{paint};
 ghost use Rattle.picture.specs.Screen.{Screen};
-ghost use Rattle.drawing.specs.Run.{mark};
+ghost use Rattle.drawing.specs.Run.{mark, markBox};
+use picture::run::paint_box;
 use picture::screen::put_dot;
 
 // The window and whether the screen is cyclic; whether the tip is down, and whether it lights (the pen) or darkens.
@@ -36,5 +38,25 @@ pub fn touch(pic: &mut [u8], t: Tip, on: bool, x: u16, y: u16)
 {
     if t.down & on {
         put_dot(pic, t.width, t.height, t.cyclic, x, y, t.lit);
+    }
+}
+
+// Cycles that are on alike: their n by m dots inside the window, the lower left one at (x, y).
+pub fn touch_box(pic: &mut [u8], t: Tip, on: bool, x: u16, y: u16, n: u16, m: u16)
+    requires { ⌜ Screen (t .width) (t .height) (length (now pic)) ⌝ }
+    requires { ⌜ (x + n ≤ t .width) × (y + m ≤ t .height) ⌝ }
+    ensures { λ _. ⌜ now (pic .exit) ≡ paint (t .lit) (markBox t on x y n m) (now (pic .entry)) ⌝ }
+{
+    if t.down & on {
+        paint_box(
+            pic,
+            t.width,
+            t.height,
+            x as usize,
+            y as usize,
+            n as usize,
+            m as usize,
+            t.lit,
+        );
     }
 }

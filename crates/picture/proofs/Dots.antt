@@ -83,11 +83,16 @@ gathered-append dot i (suc a) b =
     (ap (λ (l : List ℕ). dot i ++ l) (gathered-append dot (suc i) a b)
     ∙ sym (append-assoc (dot i) (gathered dot (suc i) a) (gathered dot (suc i + a) b)))
 
--- one step more, as a loop paints it
+-- m steps more, as a loop paints them
+pub paint-further : (b : Bool) (dot : ℕ → List ℕ) (i k m : ℕ) (pic : List ℕ)
+    → paint b (gathered dot i (k + m)) pic ≡ paint b (gathered dot (i + k) m) (paint b (gathered dot i k) pic)
+paint-further b dot i k m pic =
+    rw (gathered-append dot i k m) (paint-append b (gathered dot i k) (gathered dot (i + k) m) pic)
+
+-- one step more
 pub paint-more : (b : Bool) (dot : ℕ → List ℕ) (i k : ℕ) (pic : List ℕ)
     → paint b (gathered dot i (k + 1)) pic ≡ paint b (dot (i + k)) (paint b (gathered dot i k) pic)
-paint-more b dot i k pic =
-    rw (gathered-append dot i k 1, append-nil (dot (i + k))) (paint-append b (gathered dot i k) (dot (i + k)) pic)
+paint-more b dot i k pic = paint-further b dot i k 1 pic ∙ rw (append-nil (dot (i + k)))
 
 -- runs whose steps write the same dots
 pub gathered-same : (f g : ℕ → List ℕ) (i k : ℕ) → ((j : ℕ) → i ≤ j → j < i + k → f j ≡ g j) → gathered f i k ≡ gathered g i k

@@ -38,7 +38,7 @@ dot-swap b d e pic =
     (λ l. let h : d / 8 < length pic = ltb-true (d / 8) (length pic) l in
     rw byte
     (rw (getD-set-same pic (d / 8) (withBit b (e % 8) v) 0 h, getD-set-same pic (d / 8) (withBit b (d % 8) v) 0 h)
-    (rw (set-set, set-set, bit-swap b (d % 8) (e % 8) v))))
+    (simp set-set (rw (bit-swap b (d % 8) (e % 8) v)))))
     (λ l. let h = ltb-false (d / 8) (length pic) l in
     rw byte (rw (set-out pic (d / 8) (withBit b (e % 8) v) h, set-out pic (d / 8) (withBit b (d % 8) v) h)
     (sym (set-out pic (d / 8) (withBit b (e % 8) v) h))))

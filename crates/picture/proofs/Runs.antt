@@ -2,7 +2,7 @@
 -- Assumes nothing.
 use mathlib.Core.Path.{_≡_, sym, ap, _∙_}
 use mathlib.Core.Bool.{Bool}
-use mathlib.Core.List.{List, [], _∷_}
+use mathlib.Core.List.{List}
 use Prim.Native.Nat.{ℕ, zero, suc, _+_, _*_, _/_, _%_, _≤_, _<_}
 use native.Mathlib.Nat.{add-suc}
 use native.Mathlib.Omega.{arith}
@@ -10,7 +10,6 @@ use lib.ListN.{length, getD, set, length-set}
 use lib.Seq.{getD-set-same, set-set, set-getD}
 use Rattle.picture.specs.Bit.{withBit, withBits}
 use Rattle.picture.specs.Dot.{setDot, paint, upFrom}
-use Rattle.picture.proofs.Dots.{paint-append, gathered-append}
 
 -- one dot of byte i, by its bit
 set-bit : (b : Bool) (i k : ℕ) (pic : List ℕ) → k < 8 → setDot b (8 * i + k) pic ≡ set pic i (withBit b k (getD pic i 0))
@@ -38,7 +37,3 @@ pub paint-byte : (b : Bool) (d m : ℕ) (pic : List ℕ) → d < 8 * length pic 
 paint-byte b d m pic h l =
     let parts : 8 * (d / 8) + d % 8 ≡ d = omega arith in
     sym (paint-bits b (d / 8) (d % 8) m pic (omega arith) l) ∙ ap (λ (e : ℕ). paint b (upFrom e m) pic) parts
-
--- m dots more
-pub paint-on : (b : Bool) (d k m : ℕ) (pic : List ℕ) → paint b (upFrom d (k + m)) pic ≡ paint b (upFrom (d + k) m) (paint b (upFrom d k) pic)
-paint-on b d k m pic = rw (gathered-append (λ e. e ∷ []) d k m) (paint-append b (upFrom d k) (upFrom (d + k) m) pic)

@@ -1,12 +1,12 @@
 -- The laws of positions: every dot that a position has lies in the picture, and no two positions of the window share one.
 -- Once over width and height.
 -- Assumes nothing.
-use mathlib.Core.Path.{_≡_, sym, ap, _∙_}
+use mathlib.Core.Path.{_≡_, refl, sym, ap, _∙_}
 use mathlib.Core.Logic.{⊎-elim}
-use mathlib.Core.Bool.{Bool, true, or-false, false≢true}
+use mathlib.Core.Bool.{Bool, true, false, or-false, false≢true}
 use mathlib.Core.List.{[], _∷_}
 use Prim.Native.Nat.{ℕ, _+_, _-_, _*_, _/_, _%_, _<_, _≤_}
-use native.Mathlib.Nat.{mul-left-comm, mul-le-mul-right, suc-mul, mul-comm, mul-add-div-right, div-eq-of-lt, add-zero, mod-lt}
+use native.Mathlib.Nat.{mul-left-comm, mul-le-mul-right, suc-mul, mul-comm, mul-add-div-right, div-eq-of-lt, add-zero, mod-lt, mod-eq-of-lt}
 use native.Mathlib.Omega.{arith}
 use lib.Bits.{bitAnd, and-mask}
 use lib.Dec.{eqb, ltb}
@@ -61,10 +61,22 @@ fold-mask n p h = rw (h .1) (and-mask p (h .0))
 pub folded-lt : (n p : ℕ) → 0 < n → folded true n p < n
 folded-lt n p h = mod-lt p h
 
+-- a coordinate inside is seen as it is
+folded-own : (cyclic : Bool) (n p : ℕ) → p < n → folded cyclic n p ≡ p
+folded-own true n p h = mod-eq-of-lt h
+folded-own false n p h = refl
+
 module _ (cyclic : Bool) (w h x y : ℕ) where
   pub place-in : folded cyclic w x < w → folded cyclic h y < h → place cyclic w h x y ≡ dotNumber w (folded cyclic w x) (folded cyclic h y) ∷ []
   unfolding place
   place-in hx hy = rw (lt-ltb (folded cyclic w x) w hx, lt-ltb (folded cyclic h y) h hy)
+
+  -- a position in the window has its own dot, cyclic or not
+  pub place-own : x < w → y < h → place cyclic w h x y ≡ dotNumber w x y ∷ []
+  place-own hx hy =
+      let col = folded-own cyclic w x hx in
+      let row = folded-own cyclic h y hy in
+      place-in (rw col hx) (rw row hy) ∙ rw (col, row)
 
   pub place-beside : w ≤ folded cyclic w x → place cyclic w h x y ≡ []
   unfolding place

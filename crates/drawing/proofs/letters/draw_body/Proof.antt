@@ -1,62 +1,61 @@
--- `drawing::letters::draw_body` meets its contract. The loop's invariant: the cell counts its cycle and is on its place,
--- and the cycles so far are done. The measure is the cycles left.
+-- `drawing::letters::draw_body` meets its contract. The loop's invariant: the cell is some cycles further than the first one,
+-- and they are done. The measure is the cycles left.
 -- Assumes nothing.
-use mathlib.Core.Path.{_≡_}
-use Prim.Native.Nat.{_-_, _≤_}
+use mathlib.Core.Path.{_≡_, _∙_}
+use Prim.Native.Nat.{_+_, _-_}
 use native.Mathlib.Omega.{arith}
 use borrow.Author.Needs.{needs}
-use Rattle.motion.specs.Position.{behind}
-use Rattle.motion.specs.Character.{bodyX, bodyY, Counts, OnPlace}
-use Rattle.drawing.specs.Run.{bodyDot}
-use Rattle.drawing.proofs.Runs.{Done, none, more, size, still, body-here}
+use Rattle.drawing.specs.Column.{Further}
+use Rattle.drawing.proofs.Further.{no-further, both-further, further-size}
 use Rattle.drawing.proofs.letters.draw_body.Statement.{statement}
 use Rattle.drawing.proofs.letters.draw_body.Tie as tie
 
 abbrev Inv-loop : tie.InvT-loop
-Inv-loop pic₀ t turned b glyph run c₀ k₀ pic c k =
-    let x₀ = behind (run .x) (bodyX turned b (run .from)) in
-    let y₀ = behind (run .y) (bodyY turned b (run .from)) in
-    (k ≤ run .count) × Counts b c × OnPlace turned b x₀ y₀ c × Done (t .lit) (bodyDot t turned b glyph x₀ y₀) (run .from) pic₀ k (c .i) pic
+Inv-loop pic₀ t turned b glyph c₀ end pic c = Further t turned b glyph c₀ c end pic₀ pic
 
 abbrev μ-loop : tie.MeasureT-loop
-μ-loop pic₀ t turned b glyph run c₀ k₀ pic c k = run .count - k
+μ-loop pic₀ t turned b glyph c₀ end pic c = end - c .i
 
 loop-holds : tie.Need-loop-holds Inv-loop μ-loop
 loop-holds c =
-    let e = c .cell-at .ensures in
-    (search needs, e .1, e .2 (c .before .before .before .args .turned), none (e .0))
+    let e = c .before .cell-at .ensures in
+    no-further (e .1) (omega (arith, e .0))
 
-touch-requires : tie.Need-touch-requires Inv-loop μ-loop
-touch-requires c κs =
-    let at = c .before .before .before .before in
-    still (at .loop .inv .3) (at .before .before .before .before .pre .0)
+go-on-requires : tie.Need-go-on-requires Inv-loop μ-loop
+go-on-requires c κs =
+    let at = c .before .before .before in
+    let s = at .before .before .before .before .before in
+    let first = at .before .before .cell-at .ensures .2 (s .args .turned) in
+    (rw (further-size (at .loop .inv) first) (s .pre .0), (s .pre .1 .0, at .loop .inv .counts, s .pre .1 .1, c .before .if1 .taken, s .pre .1 .2))
 
-next-cell-requires : tie.Need-next-cell-requires Inv-loop μ-loop
-next-cell-requires c κs =
-    let at = c .before .before .before .before .before .before .before in
-    (at .before .before .before .before .pre .1 .0, at .loop .inv .1, omega arith)
+loop-less : tie.Need-loop-less Inv-loop μ-loop
+loop-less c =
+    let next = c .before .before .go-on .ensures in
+    omega (arith, next .0, next .1 .most)
 
 loop-again : tie.Need-loop-again Inv-loop μ-loop
 loop-again c =
-    let at = c .before .before .before .before .before .before .before .before in
-    let a = at .before .before .before .before .args in
-    let inv = at .loop .inv in
-    let next = c .next-cell .ensures in
-    let here = body-here (a .t) (a .glyph .now) (inv .1) (inv .2) (c .before .before .before .before .before .has-ink .ensures) in
-    (omega arith, next .1, next .2 _ _ (inv .2), more (inv .3) (next .0) here (c .before .before .before .touch .ensures))
+    both-further (c .before .before .before .before .before .before .loop .inv) (c .before .before .go-on .ensures .1)
 
 same-length : tie.Need-same-length Inv-loop μ-loop
-same-length c = size (c .before .before .loop .inv .3)
+same-length c =
+    let at = c .before .before in
+    further-size (at .loop .inv) (at .before .before .cell-at .ensures .2 (at .before .before .before .before .before .args .turned))
 
 returns : tie.Need-returns Inv-loop μ-loop
 returns c =
     let at = c .before .before in
-    let all : at .loop .k ≡ at .before .before .before .before .args .run .count = omega arith in
-    let inv = rw all at (at .loop .inv) in
-    record { x = rw (inv .3 .number) at (inv .2 .x); y = rw (inv .3 .number) at (inv .2 .y); picture = inv .3 .picture }
+    let a = at .before .before .before .before .before .args in
+    let start = at .before .before .cell-at .ensures in
+    let inv = at .loop .inv in
+    let first = start .2 (a .turned) in
+    let all : at .loop .c .i ≡ a .run .from + a .run .count = omega (arith, inv .most) in
+    let count : at .loop .c .i - at .before .before .cell-at .result .i ≡ a .run .count = omega (arith, start .0) in
+    let place = inv .place _ _ first in
+    record { x = rw all at (place .x); y = rw all at (place .y); picture = inv .picture _ _ first ∙ rw (count, start .0) }
 
 pub draw-body-spec : {M : Type 1} → statement M
 draw-body-spec =
     tie.close
-    (tie.spec Inv-loop μ-loop (λ c κs. search needs) loop-holds (λ c κs. search needs) touch-requires
-    next-cell-requires (λ c. search needs) (λ c. search needs) loop-again same-length returns)
+    (tie.spec Inv-loop μ-loop (λ c κs. search needs) (λ c. search needs) loop-holds
+    go-on-requires loop-less loop-again same-length returns)

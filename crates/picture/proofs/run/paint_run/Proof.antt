@@ -2,13 +2,13 @@
 -- The measure is the dots left.
 -- Assumes nothing.
 use mathlib.Core.Path.{_≡_, refl, ap, _∙_}
+use mathlib.Core.List.{[], _∷_}
 use Prim.Native.Nat.{_-_, _≤_}
 use native.Mathlib.Omega.{arith}
 use lib.ListN.{length}
 use borrow.Author.Needs.{needs}
 use Rattle.picture.specs.Dot.{paint, upFrom}
-use Rattle.picture.proofs.Dots.{paint-length}
-use Rattle.picture.proofs.Runs.{paint-on}
+use Rattle.picture.proofs.Dots.{paint-length, paint-further}
 use Rattle.picture.proofs.run.paint_run.Statement.{statement}
 use Rattle.picture.proofs.run.paint_run.Tie as tie
 
@@ -29,7 +29,7 @@ loop-again c =
     let painted = c .before .before .paint-byte .ensures in (
       omega (arith, c .before .before .before .before .in-byte .ensures),
       ap length painted ∙ simp paint-length (l .inv .1),
-      painted ∙ rw (l .inv .2, paint-on (a .lit) (a .d) (l .done) (c .before .before .before .before .in-byte .result) (a .pic .now)),
+      painted ∙ rw (l .inv .2, paint-further (a .lit) (λ e. e ∷ []) (a .d) (l .done) (c .before .before .before .before .in-byte .result) (a .pic .now)),
     )
 
 same-length : tie.Need-same-length Inv-loop μ-loop

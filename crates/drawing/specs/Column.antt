@@ -1,0 +1,39 @@
+-- The cycles of a character's or a block's run that are drawn at once: one cycle, or those of a whole column of the glyph.
+-- Assumes nothing.
+use mathlib.Core.Path.{_≡_}
+use Prim.Native.Nat.{ℕ, _+_, _-_, _*_, _≤_, _<_}
+use mathlib.Core.Bool.{Bool, false}
+use mathlib.Core.List.{List}
+use Rattle.picture.specs.Dot.{paint, gathered}
+use Rattle.motion.specs.declared.character.Body.{Body}
+use Rattle.motion.specs.declared.character.Cell.{Cell}
+use Rattle.motion.specs.Character.{Counts, OnPlace}
+use Rattle.drawing.specs.declared.tip.Tip.{Tip}
+use Rattle.drawing.specs.Run.{bodyDot}
+
+-- n by m places, the lower left one at (x, y), are in the window, and neither X nor Y steps around within them
+pub record Inside (t : Tip) (x y n m : ℕ) : Type 0 where
+  pub wide : x + n ≤ t .width
+  pub high : y + m ≤ t .height
+  pub right : x + n ≤ 4096
+  pub top : y + m ≤ 4096
+
+-- a cell on the first cycle of a column of the glyph that is upright inside the window
+pub record AtFoot (t : Tip) (b : Body) (c : Cell) : Type 0 where
+  pub foot : c .v ≡ 0
+  pub first : c .columndot ≡ 0
+  pub inside : Inside t (c .x) (c .y) (b .p) (b .rows)
+
+-- such a cell, with all cycles of the column among those left
+pub record Whole (t : Tip) (turned : Bool) (b : Body) (c : Cell) (left : ℕ) : Type 0 where
+  pub upright : turned ≡ false
+  pub granted : b .p * b .rows ≤ left
+  pub column : AtFoot t b c
+
+-- cell r is some cycles after cell c, none past `end`, and they leave picture q of picture p
+pub record Further (t : Tip) (turned : Bool) (b : Body) (glyph : List ℕ) (c r : Cell) (end : ℕ) (p q : List ℕ) : Type 0 where
+  pub least : c .i ≤ r .i
+  pub most : r .i ≤ end
+  pub counts : Counts b r
+  pub place : (x y : ℕ) → OnPlace turned b x y c → OnPlace turned b x y r
+  pub picture : (x y : ℕ) → OnPlace turned b x y c → q ≡ paint (t .lit) (gathered (bodyDot t turned b glyph x y) (c .i) (r .i - c .i)) p

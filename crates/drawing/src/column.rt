@@ -1,0 +1,78 @@
+// The cycles of a whole column of a glyph at once: its rows of equal dots are painted as boxes.
+ghost use mathlib.Core.Path.{_≡_};
+ghost use mathlib.Core.Bool.{true, false};
+ghost use Prim.Native.Nat.{ℕ, _+_, _*_, _≤_, _<_};
+ghost use lib.ListN.{length};
+ghost use Rattle.picture.specs.Dot.{paint, gathered};
+ghost use Rattle.picture.specs.Screen.{Screen};
+ghost use Rattle.motion.specs.Character.{Sized, Counts, OnPlace};
+ghost use Rattle.drawing.specs.Run.{bodyDot};
+ghost use Rattle.drawing.specs.Column.{Inside, AtFoot, Whole};
+use crate::tip::Tip;
+use crate::tip::touch_box;
+use motion::character::Body;
+use motion::character::Cell;
+use motion::glyph::has_ink;
+
+// Whether n by m places lie inside the window, and short of where X and Y step around.
+fn inside(t: Tip, x: u16, y: u16, n: u16, m: u16) -> bool
+    requires { ⌜ (n ≤ 128) × (m ≤ 128) ⌝ }
+    ensures { λ r. ⌜ (r ≡ true → Inside t x y n m) ⌝ }
+{
+    let right = x as usize + n as usize;
+    let top = y as usize + m as usize;
+    if right > t.width {
+        return false;
+    }
+    if top > t.height {
+        return false;
+    }
+    if right > 4096 {
+        return false;
+    }
+    top <= 4096
+}
+
+// Whether a cell is on the first cycle of a column of the glyph that can be drawn whole.
+pub fn is_whole(t: Tip, turned: bool, b: Body, c: Cell, left: u16) -> bool
+    requires { ⌜ Sized b ⌝ }
+    ensures { λ r. ⌜ (r ≡ true → Whole t turned b c left) ⌝ }
+{
+    if c.v != 0 {
+        return false;
+    }
+    if turned {
+        return false;
+    }
+    if c.columndot != 0 {
+        return false;
+    }
+    if b.p * b.rows > left {
+        return false;
+    }
+    inside(t, c.x, c.y, b.p, b.rows)
+}
+
+// The rows of dots that one row of the glyph still has.
+fn least(a: u16, b: u16) -> u16
+    ensures { λ r. ⌜ (r ≤ a) × (r ≤ b) × (r < b → r ≡ a) × (0 < a → 0 < b → 0 < r) ⌝ }
+{
+    if a < b { a } else { b }
+}
+
+// The cycles of a whole column of the glyph.
+pub fn draw_column<'a>(pic: &mut [u8], t: Tip, b: Body, glyph: &'a [u8], c: Cell)
+    requires { ⌜ Screen (t .width) (t .height) (length (now pic)) ⌝ }
+    requires { ⌜ Sized b × Counts b c × (length (now glyph) ≡ 5) × AtFoot t b c ⌝ }
+    ensures { λ _. ⌜ ((x y : ℕ) → OnPlace false b x y c → now (pic .exit) ≡ paint (t .lit) (gathered (bodyDot t false b (now (glyph .entry)) x y) (c .i) (b .p * b .rows)) (now (pic .entry))) ⌝ }
+{
+    let mut v: u16 = 0;
+    let mut row: u16 = 0;
+    while v < b.rows {
+        let m = least(b.q, b.rows - v);
+        let on = has_ink(glyph, c.column, row);
+        touch_box(pic, t, on, c.x, c.y + v, b.p, m);
+        v += m;
+        row += 1;
+    }
+}
