@@ -1,7 +1,7 @@
 -- The laws of positions: every dot that a position has lies in the picture, and no two positions of the window share one.
 -- Once over width and height.
 -- Assumes nothing.
-use mathlib.Core.Path.{_≡_, refl, sym, ap, _∙_}
+use mathlib.Core.Path.{_≡_, sym, ap, _∙_}
 use mathlib.Core.Logic.{⊎-elim}
 use mathlib.Core.Bool.{Bool, true, false, or-false, false≢true}
 use mathlib.Core.List.{[], _∷_}
@@ -64,7 +64,7 @@ folded-lt n p h = mod-lt p h
 -- a coordinate inside is seen as it is
 folded-own : (cyclic : Bool) (n p : ℕ) → p < n → folded cyclic n p ≡ p
 folded-own true n p h = mod-eq-of-lt h
-folded-own false n p h = refl
+folded-own false n p h = omega (arith, mod-eq-of-lt h)
 
 module _ (cyclic : Bool) (w h x y : ℕ) where
   pub place-in : folded cyclic w x < w → folded cyclic h y < h → place cyclic w h x y ≡ dotNumber w (folded cyclic w x) (folded cyclic h y) ∷ []
