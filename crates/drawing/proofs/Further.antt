@@ -1,7 +1,7 @@
 -- The laws of a cell some cycles further: one cycle, a whole column of the glyph, and one stretch after the other.
 -- Assumes nothing.
 use mathlib.Core.Path.{_≡_, refl, sym, ap, _∙_}
-use mathlib.Core.Bool.{Bool, false}
+use mathlib.Core.Bool.{Bool}
 use mathlib.Core.List.{List, append-nil}
 use Prim.Native.Nat.{ℕ, _+_, _-_, _*_, _≤_, _<_}
 use native.Mathlib.Nat.{mul-le-mul}
@@ -45,21 +45,20 @@ module _ {t : Tip} {turned : Bool} {b : Body} {glyph : List ℕ} {end : ℕ} whe
 
   -- a whole column of the glyph
   pub column-further : {c r : Cell} {p q : List ℕ} → Sized b → c .i < end → Whole t turned b c (end - c .i)
-      → ((x y : ℕ) → OnPlace false b x y c → q ≡ paint (t .lit) (gathered (bodyDot t false b glyph x y) (c .i) (b .p * b .rows)) p)
+      → ((x y : ℕ) → OnPlace turned b x y c → q ≡ paint (t .lit) (gathered (bodyDot t turned b glyph x y) (c .i) (b .p * b .rows)) p)
       → (r .i ≡ c .i + b .p * b .rows) × Counts b r × ((x y : ℕ) → OnPlace turned b x y c → OnPlace turned b x y r)
       → (c .i < r .i) × Further t turned b glyph c r end p q
   column-further {c} {r} s h w drawn next =
       let number = next .0 in
       let all : r .i - c .i ≡ b .p * b .rows = omega arith in
-      let some = mul-le-mul (s .p0) (s .rows0) in
-      let up = w .upright in (
+      let some = mul-le-mul (s .p0) (s .rows0) in (
         omega arith,
         record {
           least = omega arith;
           most = omega (arith, w .granted);
           counts = next .1;
           place = next .2;
-          picture = λ x y at. rw (all, up) (drawn x y (rw up at at));
+          picture = λ x y at. rw all (drawn x y at);
         },
       )
 

@@ -2,14 +2,14 @@
 -- Assumes nothing.
 use mathlib.Core.Path.{_≡_}
 use Prim.Native.Nat.{ℕ, _+_, _-_, _*_, _≤_, _<_}
-use mathlib.Core.Bool.{Bool, false}
+use mathlib.Core.Bool.{Bool, true, false}
 use mathlib.Core.List.{List}
 use Rattle.picture.specs.Dot.{paint, gathered}
 use Rattle.motion.specs.declared.character.Body.{Body}
 use Rattle.motion.specs.declared.character.Cell.{Cell}
 use Rattle.motion.specs.Character.{Counts, OnPlace}
 use Rattle.drawing.specs.declared.tip.Tip.{Tip}
-use Rattle.drawing.specs.Run.{bodyDot}
+use Rattle.drawing.specs.Run.{markBox, bodyDot}
 
 -- n by m places, the lower left one at (x, y), are in the window, and neither X nor Y steps around within them
 pub record Inside (t : Tip) (x y n m : ℕ) : Type 0 where
@@ -18,17 +18,26 @@ pub record Inside (t : Tip) (x y n m : ℕ) : Type 0 where
   pub right : x + n ≤ 4096
   pub top : y + m ≤ 4096
 
--- a cell on the first cycle of a column of the glyph that is upright inside the window
-pub record AtFoot (t : Tip) (b : Body) (c : Cell) : Type 0 where
+-- a column of the glyph, P by all the rows from its cell up, is inside; turned, all the rows from it to the left by P
+abbrev pub Fits : Bool → Tip → Body → Cell → Type 0
+Fits false t b c = Inside t (c .x) (c .y) (b .p) (b .rows)
+Fits true t b c = (b .rows ≤ c .x + 1) × Inside t ((c .x + 1) - b .rows) (c .y) (b .rows) (b .p)
+
+-- the dots of m rows from row v on that are on alike
+abbrev pub bandDots : Bool → Tip → Body → Cell → Bool → ℕ → ℕ → List ℕ
+bandDots false t b c on v m = markBox t on (c .x) (c .y + v) (b .p) m
+bandDots true t b c on v m = markBox t on ((c .x + 1) - (v + m)) (c .y) m (b .p)
+
+-- a cell on the first cycle of a column of the glyph that is inside
+pub record AtFoot (t : Tip) (turned : Bool) (b : Body) (c : Cell) : Type 0 where
   pub foot : c .v ≡ 0
   pub first : c .columndot ≡ 0
-  pub inside : Inside t (c .x) (c .y) (b .p) (b .rows)
+  pub inside : Fits turned t b c
 
 -- such a cell, with all cycles of the column among those left
 pub record Whole (t : Tip) (turned : Bool) (b : Body) (c : Cell) (left : ℕ) : Type 0 where
-  pub upright : turned ≡ false
   pub granted : b .p * b .rows ≤ left
-  pub column : AtFoot t b c
+  pub column : AtFoot t turned b c
 
 -- cell r is some cycles after cell c, none past `end`, and they leave picture q of picture p
 pub record Further (t : Tip) (turned : Bool) (b : Body) (glyph : List ℕ) (c r : Cell) (end : ℕ) (p q : List ℕ) : Type 0 where

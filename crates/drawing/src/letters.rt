@@ -34,7 +34,7 @@ fn go_on<'a>(
     ensures { λ r. ⌜ (c .i < r .i) × Further t turned b (now (glyph .entry)) c r end (now (pic .entry)) (now (pic .exit)) ⌝ }
 {
     if is_whole(t, turned, b, c, end - c.i) {
-        draw_column(pic, t, b, glyph, c);
+        draw_column(pic, t, turned, b, glyph, c);
         return next_column(turned, b, c);
     }
     let on = has_ink(glyph, c.column, c.row);

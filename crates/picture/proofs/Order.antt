@@ -6,15 +6,16 @@ use mathlib.Core.Bool.{Bool}
 use mathlib.Core.List.{List, [], _∷_, _++_}
 use Prim.Native.Nat.{ℕ, zero, suc, _+_, _*_, _/_, _%_, _<_}
 use native.Mathlib.Nat.{add-zero, zero-add, suc-add, add-suc, add-comm, zero-mul, suc-mul}
+use native.Mathlib.Numerals.{add-one}
 use native.Mathlib.Omega.{arith}
 use lib.Dec.{eqb, ltb}
 use lib.ListN.{length, getD}
 use lib.Seq.{getD-set-same, getD-set-other, set-out, set-set, set-comm}
 use borrow.Author.Tests.{eqb-true, eqb-false, ltb-true, ltb-false}
 use Rattle.picture.specs.Bit.{digit, withBit}
-use Rattle.picture.specs.Dot.{setDot, paint, gathered}
+use Rattle.picture.specs.Dot.{setDot, paint, gathered, upFrom}
 use Rattle.picture.proofs.Bits.{half-join, odd-join, digit-lt}
-use Rattle.picture.proofs.Dots.{split, paint-append, gathered-append}
+use Rattle.picture.proofs.Dots.{split, paint-append, paint-more, gathered-append}
 
 -- two bits of a number
 bit-swap : (b : Bool) (j k v : ℕ) → withBit b j (withBit b k v) ≡ withBit b k (withBit b j v)
@@ -84,6 +85,29 @@ paint-each b f g i (suc k) pic =
     ∙ ap (paint b (gathered g (suc i) k)) (paint-swap b rest (g i) (paint b (f i) pic))
     ∙ sym (paint-append b (g i) (gathered g (suc i) k) (paint b rest (paint b (f i) pic)))
     ∙ ap (paint b (g i ++ gathered g (suc i) k)) (sym (paint-append b (f i) rest pic))
+
+-- steps that leave the same pictures
+pub paint-alike : (b : Bool) (f g : ℕ → List ℕ) (i k : ℕ) → ((j : ℕ) (q : List ℕ) → paint b (f j) q ≡ paint b (g j) q)
+    → (pic : List ℕ) → paint b (gathered f i k) pic ≡ paint b (gathered g i k) pic
+paint-alike b f g i zero h pic = refl
+paint-alike b f g i (suc k) h pic =
+    paint-append b (f i) (gathered f (suc i) k) pic
+    ∙ paint-alike b f g (suc i) k h (paint b (f i) pic)
+    ∙ ap (paint b (gathered g (suc i) k)) (h i pic)
+    ∙ sym (paint-append b (g i) (gathered g (suc i) k) pic)
+
+-- dots that follow each other, painted from the last to the first
+pub paint-back : (b : Bool) (f : ℕ → ℕ) (d i k : ℕ) → ((l : ℕ) → l < k → f (i + l) + (l + 1) ≡ d + k)
+    → (pic : List ℕ) → paint b (gathered (λ j. f j ∷ []) i k) pic ≡ paint b (upFrom d k) pic
+paint-back b f d i zero h pic = refl
+paint-back b f d i (suc k) h pic =
+    let first : f i ≡ d + k = omega (arith, rw (add-zero i) at (h 0 (omega arith))) in
+    let rest : (l : ℕ) → l < k → f (suc i + l) + (l + 1) ≡ d + k =
+    λ l m. rw (suc-add i l, ← add-suc i l) (omega (arith, h (suc l) (omega arith))) in
+    paint-back b f d (suc i) k rest (setDot b (f i) pic)
+    ∙ dot-last b (f i) (upFrom d k) pic
+    ∙ rw first
+    (sym (ap (λ (n : ℕ). paint b (upFrom d n) pic) (sym (add-one k)) ∙ paint-more b (λ e. e ∷ []) d k pic))
 
 -- columns of m steps, one column after the other, or rows of n steps, one row after the other: the same picture
 pub paint-rows : (b : Bool) (dot : ℕ → ℕ → List ℕ) (i n j m : ℕ) (pic : List ℕ)

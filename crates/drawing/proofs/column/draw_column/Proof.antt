@@ -7,16 +7,16 @@ use native.Mathlib.Nat.{zero-mul, add-mul, one-mul}
 use native.Mathlib.Omega.{arith}
 use borrow.Author.Needs.{needs}
 use Rattle.drawing.proofs.Runs.{Done, none, further, size, still}
-use Rattle.drawing.proofs.Columns.{upRow, band, column-rows}
+use Rattle.drawing.proofs.Columns.{rowDots, box, column-rows}
 use Rattle.drawing.proofs.column.draw_column.Statement.{statement}
 use Rattle.drawing.proofs.column.draw_column.Tie as tie
 
 abbrev Inv-loop : tie.InvT-loop
-Inv-loop pic₀ t b glyph c v₀ row₀ pic v row =
-    (v ≤ b .rows) × (row ≤ v) × (v < b .rows → v ≡ row * b .q) × Done (t .lit) (upRow t b glyph c) 0 pic₀ v v pic
+Inv-loop pic₀ t turned b glyph c v₀ row₀ pic v row =
+    (v ≤ b .rows) × (row ≤ v) × (v < b .rows → v ≡ row * b .q) × Done (t .lit) (rowDots turned t b glyph c) 0 pic₀ v v pic
 
 abbrev μ-loop : tie.MeasureT-loop
-μ-loop pic₀ t b glyph c v₀ row₀ pic v row = b .rows - v
+μ-loop pic₀ t turned b glyph c v₀ row₀ pic v row = b .rows - v
 
 loop-holds : tie.Need-loop-holds Inv-loop μ-loop
 loop-holds c = (search needs, search needs, λ _. sym (zero-mul _), none refl)
@@ -24,43 +24,41 @@ loop-holds c = (search needs, search needs, λ _. sym (zero-mul _), none refl)
 has-ink-requires : tie.Need-has-ink-requires Inv-loop μ-loop
 has-ink-requires c κs = c .before .before .before .before .before .before .before .pre .1 .2
 
-add-touch-box : tie.Need-add-touch-box Inv-loop μ-loop
-add-touch-box c =
-    let s = c .before .before .before .before .before .before .before .before .before .before in
-    omega (arith, s .pre .1 .3 .inside .top)
-
-touch-box-requires : tie.Need-touch-box-requires Inv-loop μ-loop
-touch-box-requires c κs =
-    let at = c .before .before .before .before .before .before .before in
+draw-band-requires : tie.Need-draw-band-requires Inv-loop μ-loop
+draw-band-requires c κs =
+    let at = c .before .before .before .before .before .before in
     let s = at .before .before .before in
-    let m = c .before .before .before .least .ensures .1 in
-    (still (at .loop .inv .3) (s .pre .0), (s .pre .1 .3 .inside .wide, omega (arith, s .pre .1 .3 .inside .high)))
+    let m = c .before .before .least .ensures .1 in
+    (still (at .loop .inv .3) (s .pre .0), (s .pre .1 .3 .inside, omega arith, s .pre .1 .0 .rows128))
 
 loop-less : tie.Need-loop-less Inv-loop μ-loop
 loop-less c =
-    let at = c .before .before .before .before .before .before .before .before .before .before in
+    let band = c .before .before .before .before .before in
+    let at = band .before .before .before .before in
     let s = at .before .before .before in
-    let left : 0 < s .args .b .rows - at .loop .v = omega (arith, c .before .before .before .before .before .before .before .before .if1 .taken) in
-    omega (arith, c .before .before .before .before .before .before .least .ensures .3 (s .pre .1 .0 .q0) left)
+    let left : 0 < s .args .b .rows - at .loop .v = omega (arith, band .before .before .if1 .taken) in
+    omega (arith, band .least .ensures .3 (s .pre .1 .0 .q0) left)
 
 loop-again : tie.Need-loop-again Inv-loop μ-loop
 loop-again c =
-    let at = c .before .before .before .before .before .before .before .before .before .before in
+    let band = c .before .before .before .before .before in
+    let at = band .before .before .before .before in
     let s = at .before .before .before in
     let a = s .args in
     let l = at .loop in
-    let least = c .before .before .before .before .before .before .least .ensures in
-    let m = c .before .before .before .before .before .before .least .result in
-    let inner = c .before .before .before .before .before .before .before .before .if1 .taken in
+    let m = band .least .result in
+    let least = band .least .ensures in
+    let inner = band .before .before .if1 .taken in
     let left : 0 < a .b .rows - l .v = omega (arith, inner) in
     let start = l .inv .2 inner in
-    let box = band (a .t) (a .b) (a .glyph .now) (a .c) (l .row) (c .before .before .before .before .before .has-ink .ensures) start (least .0) in (
+    let ink = c .before .before .before .before .has-ink .ensures in
+    let rows = box (a .turned) (a .t) (a .b) (a .glyph .now) (a .c) (l .row) (s .pre .1 .3 .inside) ink start (least .0) (omega arith) (l .pic) in (
       omega arith,
       omega (arith, least .3 (s .pre .1 .0 .q0) left),
       λ h. let below : l .v + m < a .b .rows = h in
           let short : m < a .b .rows - l .v = omega arith in
           simp (add-mul, one-mul) (omega (arith, start, least .2 short)),
-      further (l .inv .3) _ refl box (c .before .before .touch-box .ensures),
+      further (l .inv .3) m refl refl (c .before .before .draw-band .ensures ∙ rows),
     )
 
 same-length : tie.Need-same-length Inv-loop μ-loop
@@ -72,10 +70,10 @@ returns c x y place =
     let s = at .before .before .before in
     let all : at .loop .v ≡ s .args .b .rows = omega arith in
     let inv = rw all at (at .loop .inv .3 .picture) in
-    inv ∙ column-rows (s .args .t) (s .args .glyph .now) (s .pre .1 .0) (s .pre .1 .1) (s .pre .1 .3) place (s .args .pic .now)
+    inv ∙ column-rows (s .args .t) (s .args .glyph .now) (s .pre .1 .1) (s .pre .1 .3) place (s .args .pic .now)
 
 pub draw-column-spec : {M : Type 1} → statement M
 draw-column-spec =
     tie.close
-    (tie.spec Inv-loop μ-loop loop-holds (λ c. search needs) (λ c κs. search needs) has-ink-requires add-touch-box touch-box-requires
+    (tie.spec Inv-loop μ-loop loop-holds (λ c. search needs) (λ c κs. search needs) has-ink-requires draw-band-requires
     (λ c. search needs) (λ c. search needs) loop-less loop-again same-length returns)

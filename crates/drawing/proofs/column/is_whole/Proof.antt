@@ -7,21 +7,20 @@ use borrow.Author.Needs.{needs}
 use Rattle.drawing.proofs.column.is_whole.Statement.{statement}
 use Rattle.drawing.proofs.column.is_whole.Tie as tie
 
-mul-if4 : tie.Need-mul-if4
-mul-if4 c =
-    let s = c .before .before .before .before .before .before in
+mul-if3 : tie.Need-mul-if3
+mul-if3 c =
+    let s = c .before .before .before .before .before in
     omega (arith, mul-le-mul (s .pre .p16) (s .pre .rows128))
 
-returns-5 : tie.Need-returns-5
-returns-5 c e =
+returns-4 : tie.Need-returns-4
+returns-4 c e =
     record {
-      upright = c .before .before .before .before .before .if2 .left;
       granted = search needs;
-      column = record { foot = omega arith; first = omega arith; inside = c .inside .ensures e };
+      column = record { foot = omega arith; first = omega arith; inside = c .fits2 .ensures e };
     }
 
 pub is-whole-spec : {M : Type 1} → statement M
 is-whole-spec =
     tie.close
-    (tie.spec (λ c e. absurd (false≢true e)) (λ c e. absurd (false≢true e)) (λ c e. absurd (false≢true e)) mul-if4
-    (λ c e. absurd (false≢true e)) (λ c κs. search needs) returns-5)
+    (tie.spec (λ c e. absurd (false≢true e)) (λ c e. absurd (false≢true e)) mul-if3
+    (λ c e. absurd (false≢true e)) (λ c κs. search needs) returns-4)
