@@ -33,11 +33,11 @@ rowDots true t b glyph c v =
     cond (t .down && inked glyph (c .column) (v / b .q)) (gathered (λ y. dotNumber (t .width) (c .x - v) y ∷ []) (c .y) (b .p)) []
 
 -- the rows of dots of one row of the glyph are a box
-pub box : (turned : Bool) (t : Tip) (b : Body) (glyph : List ℕ) (c : Cell) {on : Bool} {v : ℕ} (row : ℕ) {m : ℕ}
+pub band-rows : (turned : Bool) (t : Tip) (b : Body) (glyph : List ℕ) (c : Cell) {on : Bool} {v : ℕ} (row : ℕ) {m : ℕ}
     → Fits turned t b c → on ≡ inked glyph (c .column) row → v ≡ row * b .q → m ≤ b .q → v + m ≤ b .rows
     → (pic : List ℕ) → paint (t .lit) (bandDots turned t b c on v m) pic ≡ paint (t .lit) (gathered (rowDots turned t b glyph c) v m) pic
 unfolding rowDots markBox
-box false t b glyph c {on} {v} row {m} fits e at h top pic =
+band-rows false t b glyph c {on} {v} row {m} fits e at h top pic =
     let here : (l : ℕ) → l < m → (v + l) / b .q ≡ row = λ l k. rw at (digits-div row (omega arith)) in
     let rows = rowDots false t b glyph c in
     ⊎-elim
@@ -46,7 +46,7 @@ box false t b glyph c {on} {v} row {m} fits e at h top pic =
     (λ l k. rw (here l k, ← e, d, add-assoc))))))
     (λ d. rw d (ap (λ (ds : List ℕ). paint (t .lit) ds pic) (sym (gathered-none rows v m (λ l k. rw (here l k, ← e, d))))))
     (split (t .down && on))
-box true t b glyph c {on} {v} row {m} fits e at h top pic =
+band-rows true t b glyph c {on} {v} row {m} fits e at h top pic =
     let here : (l : ℕ) → l < m → (v + l) / b .q ≡ row = λ l k. rw at (digits-div row (omega arith)) in
     let rows = rowDots true t b glyph c in
     let left = (c .x + 1) - (v + m) in
@@ -94,6 +94,12 @@ row-here : (b : Body) {i u v : ℕ} → Splits i (b .rows) u v → rowOf b i ≡
 unfolding rowOf vOf
 row-here b at = rw (← at .rest)
 
+-- what a place in the window marks is its own dot
+mark-own : (t : Tip) (on : Bool) (x y : ℕ) → x < t .width → y < t .height
+    → mark t on x y ≡ cond (t .down && on) (dotNumber (t .width) x y ∷ []) []
+unfolding mark
+mark-own t on x y hx hy = ap (λ (ds : List ℕ). cond (t .down && on) ds []) (place-own (t .cyclic) (t .width) (t .height) x y hx hy)
+
 -- the dot of row v in the k-th column of dots
 cell-dot : (turned : Bool) (t : Tip) {b : Body} (glyph : List ℕ) {c : Cell} {x₀ y₀ i k v : ℕ} → Counts b c → AtFoot t turned b c
     → OnPlace turned b x₀ y₀ c → Splits i (b .rows) (uOf b (c .i) + k) v → k < b .p → v < b .rows
@@ -101,7 +107,7 @@ cell-dot : (turned : Bool) (t : Tip) {b : Body} (glyph : List ℕ) {c : Cell} {x
     ≡ cond (t .down && inked glyph (c .column) (v / b .q))
     (dotNumber (t .width) (cond turned (c .x - v) (c .x + k)) (cond turned (c .y + k) (c .y + v)) ∷ [])
     []
-unfolding bodyDot mark
+unfolding bodyDot
 cell-dot false t {b} glyph {c} {x₀} {y₀} {i} {k} {v} g w place at hk hv =
     let x : c .x ≡ ahead x₀ (uOf b (c .i)) = place .x ∙ ap (ahead x₀) (x-at false b (split-i g)) in
     let y : c .y ≡ ahead y₀ (c .v) = place .y ∙ ap (ahead y₀) (y-at false b (split-i g)) in
@@ -110,7 +116,7 @@ cell-dot false t {b} glyph {c} {x₀} {y₀} {i} {k} {v} g w place at hk hv =
     let x-here : ahead x₀ (bodyX false b i) ≡ c .x + k = rw (x-at false b at) (omega (arith, fits .right)) in
     let y-here : ahead y₀ (bodyY false b i) ≡ c .y + v = rw (y-at false b at) (omega (arith, fits .top)) in
     rw (column-here t g w at hk, row-here b at, x-here, y-here)
-    (rw (place-own (t .cyclic) (t .width) (t .height) (c .x + k) (c .y + v) (omega (arith, fits .wide)) (omega (arith, fits .high))))
+    (mark-own t (inked glyph (c .column) (v / b .q)) (c .x + k) (c .y + v) (omega (arith, fits .wide)) (omega (arith, fits .high)))
 cell-dot true t {b} glyph {c} {x₀} {y₀} {i} {k} {v} g w place at hk hv =
     let x : c .x ≡ ahead x₀ (signed true (c .v)) = place .x ∙ ap (ahead x₀) (x-at true b (split-i g)) in
     let y : c .y ≡ ahead y₀ (uOf b (c .i)) = place .y ∙ ap (ahead y₀) (y-at true b (split-i g)) in
@@ -120,7 +126,7 @@ cell-dot true t {b} glyph {c} {x₀} {y₀} {i} {k} {v} g w place at hk hv =
     let x-here : ahead x₀ (bodyX true b i) ≡ c .x - v = rw (x-at true b at) (omega (arith, fits .right)) in
     let y-here : ahead y₀ (bodyY true b i) ≡ c .y + k = rw (y-at true b at) (omega (arith, fits .top)) in
     rw (column-here t g w at hk, row-here b at, x-here, y-here)
-    (rw (place-own (t .cyclic) (t .width) (t .height) (c .x - v) (c .y + k) (omega (arith, fits .wide)) (omega (arith, fits .high))))
+    (mark-own t (inked glyph (c .column) (v / b .q)) (c .x - v) (c .y + k) (omega (arith, fits .wide)) (omega (arith, fits .high)))
 
 -- so the cycles of row v write its dots
 row-cycles : (turned : Bool) (t : Tip) {b : Body} (glyph : List ℕ) {c : Cell} {x₀ y₀ : ℕ} → Counts b c → AtFoot t turned b c

@@ -7,7 +7,7 @@ use native.Mathlib.Nat.{zero-mul, add-mul, one-mul}
 use native.Mathlib.Omega.{arith}
 use borrow.Author.Needs.{needs}
 use Rattle.drawing.proofs.Runs.{Done, none, further, size, still}
-use Rattle.drawing.proofs.Columns.{rowDots, box, column-rows}
+use Rattle.drawing.proofs.Columns.{rowDots, band-rows, column-rows}
 use Rattle.drawing.proofs.column.draw_column.Statement.{statement}
 use Rattle.drawing.proofs.column.draw_column.Tie as tie
 
@@ -52,7 +52,7 @@ loop-again c =
     let left : 0 < a .b .rows - l .v = omega (arith, inner) in
     let start = l .inv .2 inner in
     let ink = c .before .before .before .before .has-ink .ensures in
-    let rows = box (a .turned) (a .t) (a .b) (a .glyph .now) (a .c) (l .row) (s .pre .1 .3 .inside) ink start (least .0) (omega arith) (l .pic) in (
+    let rows = band-rows (a .turned) (a .t) (a .b) (a .glyph .now) (a .c) (l .row) (s .pre .1 .3 .inside) ink start (least .0) (omega arith) (l .pic) in (
       omega arith,
       omega (arith, least .3 (s .pre .1 .0 .q0) left),
       λ h. let below : l .v + m < a .b .rows = h in
