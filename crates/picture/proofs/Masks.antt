@@ -3,7 +3,7 @@
 use mathlib.Core.Path.{_≡_, sym, ap, _∙_}
 use mathlib.Core.Bool.{Bool, true, false}
 use Prim.Native.Nat.{ℕ, zero, suc, _+_, _-_, _*_, _/_, _%_, _^_, _<_, _≤_}
-use native.Mathlib.Nat.{pow-suc, le-of-suc-le-suc, not-suc-le-zero, max-eq-right, max-zero, min-zero, min-eq-left, mod-eq-of-lt, one-mul, sub-zero, lt-of-lt-of-le}
+use native.Mathlib.Nat.{pow-suc, le-of-suc-le-suc, not-suc-le-zero, max-eq-right, max-zero, min-zero, min-eq-left, mod-eq-of-lt, one-mul, mul-one, mul-assoc, sub-zero, lt-of-lt-of-le}
 use native.Mathlib.Omega.{arith}
 use lib.Bits.{bitAnd, bitOr, or-step, and-step, or-zero-r, and-mask, shifted-half, shifted-even}
 use lib.Pow.{pow-lt, pow-pos, pow-mono, ones-lt, ones-split, high, shl-lt, shl-exact}
@@ -60,28 +60,33 @@ or-bits (suc k) m v =
     or-step v (a * 2 ^ suc k)
     ∙ rw (shifted-half a k, shifted-even a k, max-zero (v % 2), or-bits k m (v / 2), bits-half true k m v)
 
+-- what is left of n ones without m ones below, and without some above the lowest, by halves
+ones-less : (a b : ℕ) → 0 < b → b ≤ a → (((a * 2 - 1) - (b * 2 - 1)) / 2 ≡ (a - 1) - (b - 1)) × (((a * 2 - 1) - (b * 2 - 1)) % 2 ≡ 0)
+ones-less a b p h = (omega arith, omega arith)
+
+ones-above : (a b c : ℕ) → b < a → c ≡ b * 2 → (((a * 2 - 1) - c) / 2 ≡ (a - 1) - b) × (((a * 2 - 1) - c) % 2 ≡ 1)
+ones-above a b c h e = (omega arith, omega arith)
+
+twice : (a k : ℕ) → a * 2 ^ suc k ≡ a * 2 ^ k * 2
+twice a k = rw (pow-suc 2 k, mul-assoc)
+
 -- `&` with its complement makes them 0
 pub and-bits : (n k m v : ℕ) → k + m ≤ n → v < 2 ^ n → bitAnd v ((2 ^ n - 1) - (2 ^ m - 1) * 2 ^ k) ≡ withBits false k m v
 and-bits n zero zero v h hv = rw sub-zero (and-mask v n ∙ mod-eq-of-lt hv)
 and-bits zero zero (suc m) v h hv = absurd (not-suc-le-zero {n = m} (omega arith))
 and-bits (suc n) zero (suc m) v h hv =
-    let l : m ≤ n = omega arith in
-    let half : ((2 ^ suc n - 1) - (2 ^ suc m - 1) * 1) / 2 ≡ (2 ^ n - 1) - (2 ^ m - 1) * 1 =
-    omega (arith, pow-suc 2 n, pow-suc 2 m, pow-pos m, pow-mono l) in
-    let even : ((2 ^ suc n - 1) - (2 ^ suc m - 1) * 1) % 2 ≡ 0 =
-    omega (arith, pow-suc 2 n, pow-suc 2 m, pow-pos m, pow-mono l) in
+    let parts = ones-less (2 ^ n) (2 ^ m) (pow-pos m) (pow-mono (omega arith)) in
     and-step v ((2 ^ suc n - 1) - (2 ^ suc m - 1) * 1)
-    ∙ rw (half, even, min-zero (v % 2), and-bits n zero m (v / 2) (omega arith) (omega (arith, pow-suc 2 n)))
-    (rw (bits-half false 0 m (v / 2 * 2 + 0), half-join (v / 2) 0 (omega arith), odd-join (v / 2) 0 (omega arith)))
+    ∙ rw (mul-one, pow-suc 2 n, pow-suc 2 m, parts .0, parts .1, min-zero (v % 2))
+    (rw (rw (mul-one (2 ^ m - 1)) at (and-bits n zero m (v / 2) (omega arith) (omega (arith, pow-suc 2 n))))
+    (rw (bits-half false 0 m (v / 2 * 2 + 0), half-join (v / 2) 0 (omega arith), odd-join (v / 2) 0 (omega arith))))
 and-bits zero (suc k) m v h hv = absurd (not-suc-le-zero {n = k + m} (omega arith))
 and-bits (suc n) (suc k) m v h hv =
     let a = 2 ^ m - 1 in
     let l : a * 2 ^ k < 2 ^ n = lt-of-lt-of-le (shl-lt m k (ones-lt m)) (pow-mono (omega arith)) in
-    let half : ((2 ^ suc n - 1) - a * 2 ^ suc k) / 2 ≡ (2 ^ n - 1) - a * 2 ^ k =
-    omega (arith, pow-suc 2 n, shifted-half a k, shifted-even a k) in
-    let odd : ((2 ^ suc n - 1) - a * 2 ^ suc k) % 2 ≡ 1 = omega (arith, pow-suc 2 n, shifted-half a k, shifted-even a k) in
+    let parts = ones-above (2 ^ n) (a * 2 ^ k) (a * 2 ^ suc k) l (twice a k) in
     and-step v ((2 ^ suc n - 1) - a * 2 ^ suc k)
-    ∙ rw (half, odd, min-eq-left {n = v % 2} {m = 1} (omega arith))
+    ∙ rw (pow-suc 2 n, parts .0, parts .1, min-eq-left {n = v % 2} {m = 1} (omega arith))
     (rw (and-bits n k m (v / 2) (omega arith) (omega (arith, pow-suc 2 n)), bits-half false k m v))
 
 -- the mask as the code makes it, 255 >> (8 - m) << k
