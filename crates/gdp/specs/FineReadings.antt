@@ -39,6 +39,8 @@ fineReadings =
     ++ (
     -- the glyphs go from code 20 to code 7F
     (drawn edged (pen (W 0 0x20 ∷ T 65535 ∷ W 0 0x7F ∷ T 65535 ∷ [])), just Ef9366 ((0, 0) ∷ (10, 7) ∷ []))
+    -- CTRL1 bit 2, fast writing, is only stored: the screen stays as it is
+    ∷ (drawn card (W 1 7 ∷ from 517 3 (draw 0 0 0x11)), dark Ef9366)
     -- a half of Y leaves the other half
     ∷ (said card (W 0xB 0xAB ∷ W 0xA 0x03 ∷ R 0xB ∷ W 0xB 0x12 ∷ R 0xA ∷ []), 0xAB ∷ 0x03 ∷ [])
     -- 07 leaves XLP and YLP, XLP's lowest bit too
