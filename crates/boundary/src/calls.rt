@@ -136,8 +136,8 @@ fn write_long(state: Flat, address: u8, value: u8) -> FlatAnswer
     no_state(state)
 }
 
-// Writes a byte to the register at an address; at 0 it is a command. The long way is left out of line by being named
-// twice, so that the short ways need no stack.
+// Writes a byte to the register at an address; at 0 it is a command. The long way is named twice, here and in the calls
+// below, because the compiler then leaves it out of line, and the short ways do not pay for its stack and registers.
 #[no_mangle]
 pub extern "C" fn gdp_write(state: Flat, address: u8, value: u8) -> FlatAnswer
     ensures { λ r. ⌜ r ≡ flatWritten state address value ⌝ }

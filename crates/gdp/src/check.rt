@@ -15,8 +15,8 @@ use parts::sequence::is_pen_open;
 use parts::sequence::is_ready;
 use picture::dot::bit_at;
 
-// The cycles of a command by CSIZE and the deltas; 0 for one that takes no write cycle. Handed three numbers and not the
-// state, it costs no copy of it, and asked twice the compiler finds the answer once.
+// The cycles of a command by CSIZE and the deltas; 0 for one that takes no write cycle. Handed these numbers and not the
+// state, it costs no copy of it.
 pub fn cycles_by(code: u8, csize: u8, deltax: u8, deltay: u8) -> u16
     ensures { λ r. ⌜ (r ≡ cyclesBy csize deltax deltay code) × (r ≤ 12288) ⌝ }
 {
