@@ -19,7 +19,7 @@ pub fn is_no_address(address: u8) -> bool
 }
 
 impl Gdp {
-    pub fn register_at(self, address: u8) -> u8
+    fn register_at(self, address: u8) -> u8
         ensures { λ r. ⌜ r ≡ registerAt self address ⌝ }
     {
         let r = self.regs;
