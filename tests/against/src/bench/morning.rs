@@ -56,7 +56,7 @@ mod tests {
     /// So that what is timed stays what a reader of the example runs.
     #[test]
     fn the_figures_are_the_example_s() {
-        let example = include_str!("../../../examples/host.c");
+        let example = include_str!("../../../../examples/host.c");
         let (_, after) = example.split_once("forecast[POINTS] = {").expect("the example has a forecast");
         let (heights, _) = after.split_once('}').expect("the forecast ends");
         let heights: Vec<u8> = heights.split(',').filter_map(|height| height.trim().parse().ok()).collect();

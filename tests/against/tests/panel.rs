@@ -1,5 +1,5 @@
 //! The proved panel program, run as a user runs it, against the second program's panel text, byte for byte.
-//! GDP_PANEL is the command that plays a log, its words parted by spaces; PANEL_SEED tries other logs.
+//! GDP_PANEL is the program that plays a log; PANEL_SEED tries other logs.
 
 use against::log::{log, noise};
 use against::random::Random;
@@ -12,10 +12,9 @@ const GENERATED: usize = 600;
 const SEED: u64 = 9366;
 
 fn program() -> Command {
-    let words = std::env::var("GDP_PANEL").expect("GDP_PANEL names the command that plays a log");
-    let mut words = words.split(' ');
-    let mut command = Command::new(words.next().unwrap());
-    command.args(words).stdin(Stdio::piped()).stdout(Stdio::piped()).stderr(Stdio::piped());
+    let mut command =
+        Command::new(std::env::var_os("GDP_PANEL").expect("GDP_PANEL names the program that plays a log"));
+    command.stdin(Stdio::piped()).stdout(Stdio::piped()).stderr(Stdio::piped());
     command
 }
 
@@ -75,8 +74,8 @@ fn lengths_about_the_longest() {
 #[test]
 fn stored_logs() {
     let mut compared = 0;
-    for folder in ["examples", "runs"] {
-        let folder = Path::new(env!("CARGO_MANIFEST_DIR")).join("..").join(folder);
+    for folder in ["../../examples", "../runs"] {
+        let folder = Path::new(env!("CARGO_MANIFEST_DIR")).join(folder);
         for entry in std::fs::read_dir(folder).unwrap() {
             let path = entry.unwrap().path();
             if path.extension().is_some_and(|extension| extension == "log") {

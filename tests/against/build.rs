@@ -1,22 +1,18 @@
-//! Makes the static library that GDP_LIB_DIR names reachable. Where its code is for this processor it is linked;
-//! else it is linked into the small program `bridge`, which an emulator runs.
+//! Makes the static library that GDP_LIB names reachable. Where its code is for this processor it is linked; else it
+//! is linked into the small program `bridge`, which an emulator runs.
 
 use std::path::{Path, PathBuf};
 use std::process::{exit, Command};
 
-const ARCHIVE: &str = "libboundary.a";
-
 fn main() {
     println!("cargo:rerun-if-changed=build.rs");
     println!("cargo:rustc-check-cfg=cfg(linked)");
-    let folder = folder();
-    let archive = folder.join(ARCHIVE);
+    let archive = archive();
     println!("cargo:rerun-if-changed={}", archive.display());
     let code_is_for = processor(&archive);
     if variable("CARGO_CFG_TARGET_ARCH").as_deref() == Some(code_is_for) {
         println!("cargo:rustc-cfg=linked");
-        println!("cargo:rustc-link-search=native={}", folder.display());
-        println!("cargo:rustc-link-lib=static=boundary");
+        link(&archive);
     } else {
         bridge(&archive, code_is_for);
     }
@@ -33,15 +29,26 @@ fn processor(archive: &Path) -> &'static str {
     }
 }
 
-fn folder() -> PathBuf {
-    let Some(named) = variable("GDP_LIB_DIR") else {
-        stop("GDP_LIB_DIR is not set: give it the folder that holds libboundary.a.");
+fn archive() -> PathBuf {
+    let Some(named) = variable("GDP_LIB") else {
+        stop("GDP_LIB is not set: give it the path of the static library, libNAME.a.");
     };
-    // A relative path would otherwise mean different folders to this program and to the linker.
+    // A relative path would otherwise mean different files to this program and to the linker.
     match Path::new(&named).canonicalize() {
-        Ok(folder) if folder.join(ARCHIVE).is_file() => folder,
-        _ => stop(&format!("GDP_LIB_DIR is {named}, but there is no {ARCHIVE} in it.")),
+        Ok(archive) if archive.is_file() => archive,
+        _ => stop(&format!("GDP_LIB is {named}, but there is no such file.")),
     }
+}
+
+/// The linker asks for the folder and the name between `lib` and `.a`.
+fn link(archive: &Path) {
+    let name = archive.file_name().and_then(|file| file.to_str()).unwrap_or_default();
+    let Some(name) = name.strip_prefix("lib").and_then(|name| name.strip_suffix(".a")) else {
+        stop(&format!("GDP_LIB is {}, but a static library is called libNAME.a.", archive.display()));
+    };
+    let folder = archive.parent().unwrap_or(archive);
+    println!("cargo:rustc-link-search=native={}", folder.display());
+    println!("cargo:rustc-link-lib=static={name}");
 }
 
 fn bridge(archive: &Path, code_is_for: &str) {
