@@ -7,11 +7,11 @@ use Prim.Native.Nat.{ℕ, _%_}
 use native.Mathlib.Omega.{arith}
 use lib.Dec.{eqb, leb}
 use borrow.Author.Tests.{leb-true}
+use Rattle.text.specs.Taken.{Taken}
+use Rattle.text.proofs.Laws.{both}
 use Rattle.panel.specs.declared.parse.Record.{Record}
 use Rattle.panel.specs.declared.parse.Record.the-variants.{Write, Read, Cycles, Blanking, Edge, Malformed}
 use Rattle.panel.specs.Record.{recordBy}
-use Rattle.panel.specs.Taken.{Taken}
-use Rattle.panel.proofs.Numbers.{both}
 
 -- two records that are the same where the test holds
 same-if : (t : Bool) {r q : Record} → (t ≡ true → r ≡ q) → cond t r Malformed ≡ cond t q Malformed

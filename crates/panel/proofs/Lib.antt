@@ -1,11 +1,6 @@
-pub mod Decimals
 pub mod LineLengths
 pub mod Answers
-pub mod Writing
 pub mod DotLines
-pub mod Pieces
-pub mod Lines
-pub mod Numbers
 pub mod Records
 pub mod Letters
 pub mod Steps

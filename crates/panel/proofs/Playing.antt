@@ -7,15 +7,15 @@ use native.Mathlib.Numerals.{add-one}
 use native.Mathlib.Omega.{arith}
 use lib.ListN.{length, take, drop, length-append}
 use lib.Seq.{length-take-le}
+use Rattle.text.specs.Pieces.{lineFeed, linesOf}
+use Rattle.text.specs.Found.{Found}
+use Rattle.text.specs.Wrote.{Wrote}
+use Rattle.text.proofs.Laws.{lines-next, lines-end, same-later}
 use Rattle.gdp.specs.declared.state.Gdp.{Gdp}
 use Rattle.panel.specs.declared.parse.Record.{Record}
-use Rattle.panel.specs.Found.{Found}
-use Rattle.panel.specs.Text.{linesOf}
 use Rattle.panel.specs.Record.{recordOf}
 use Rattle.panel.specs.Panel.{answerTo, answers, shown}
-use Rattle.panel.specs.Wrote.{Wrote}
 use Rattle.panel.specs.Played.{Stepped}
-use Rattle.panel.proofs.Lines.{lines-next, lines-end}
 
 -- with state s and picture p before line k, `from` bytes of the input read and `at` bytes of the buffer written
 pub record Going (input out₀ : List ℕ) (start : ℕ) (s₀ : Gdp) (p₀ : List ℕ) (s : Gdp) (p out : List ℕ) (at from k : ℕ) : Type 0 where
@@ -23,18 +23,19 @@ pub record Going (input out₀ : List ℕ) (start : ℕ) (s₀ : Gdp) (p₀ : Li
   pub lines : k ≤ from + 1
   pub read : from ≤ length input + 1
   pub written : at ≤ start + 11 * from
+  pub rest : drop at out ≡ drop at out₀
   pub text : take at out ++ answers k s p (linesOf (drop from input)) ≡ take start out₀ ++ answers 1 s₀ p₀ (linesOf input)
   pub picture : shown s p (linesOf (drop from input)) ≡ shown s₀ p₀ (linesOf input)
 
 -- nothing read yet
 pub going-none : (input out₀ : List ℕ) (start : ℕ) (s₀ : Gdp) (p₀ : List ℕ) → Going input out₀ start s₀ p₀ s₀ p₀ out₀ start 0 1
 going-none input out₀ start s₀ p₀ =
-    record { size = refl; lines = omega arith; read = omega arith; written = omega arith; text = refl; picture = refl }
+    record { size = refl; lines = omega arith; read = omega arith; written = omega arith; rest = refl; text = refl; picture = refl }
 
 module _ {input out₀ : List ℕ} {start : ℕ} {s₀ : Gdp} {p₀ : List ℕ} {s : Gdp} {p out : List ℕ} {at from k : ℕ}
     (g : Going input out₀ start s₀ p₀ s p out at from k) where
   -- one line more
-  pub going-more : {e end : ℕ} {r : Record} {t : Gdp} {q after : List ℕ} → Found input from 10 e → from < length input
+  pub going-more : {e end : ℕ} {r : Record} {t : Gdp} {q after : List ℕ} → Found input from lineFeed e → from < length input
       → r ≡ recordOf (take (e - from) (drop from input))
       → Stepped k s p r out at t q after end
       → Going input out₀ start s₀ p₀ t q after end (e + 1) (k + 1)
@@ -50,8 +51,9 @@ module _ {input out₀ : List ℕ} {start : ℕ} {s₀ : Gdp} {p₀ : List ℕ} 
         lines = omega (arith, f .low, g .lines);
         read = omega (arith, f .high);
         written = omega (arith, f .low, g .written, d .short);
+        rest = d .text .rest ∙ same-later out out₀ at end (omega (arith, d .text .end)) (g .rest);
         text =
-            rw (add-one, d .text .bytes)
+            rw (add-one k, d .text .bytes)
             (append-assoc (take at out) (answerTo k s p r) (answers (suc k) t q (linesOf (drop (e + 1) input)))
             ∙ ap (λ (l : List ℕ). take at out ++ l) (sym here)
             ∙ g .text);
@@ -71,6 +73,7 @@ module _ {input out₀ : List ℕ} {start : ℕ} {s₀ : Gdp} {p₀ : List ℕ} 
           end = omega (arith, sizes, length-take-le at out fits, length-take-le start out₀ room);
           size = g .size;
           bytes = text;
+          rest = g .rest;
         },
         ap (shown s p) (sym none) ∙ g .picture,
       )

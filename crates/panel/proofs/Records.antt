@@ -1,23 +1,22 @@
 -- What a line means, by its letter, the count of its fields, and the tabs found in it.
 -- Assumes nothing.
 use mathlib.Core.Path.{_≡_, refl, sym, ap, _∙_}
-use mathlib.Core.Logic.{_⊎_, inl, inr, ⊎-elim}
+use mathlib.Core.Logic.{⊎-elim}
 use mathlib.Core.Bool.{false, and-false}
 use mathlib.Core.List.{List, [], _∷_}
-use Prim.Native.Nat.{ℕ, suc, _+_, _-_, _<_, _≤_}
+use Prim.Native.Nat.{ℕ, suc, _+_, _-_, _<_}
 use native.Mathlib.Omega.{arith}
-use lib.Dec.{eqb, ltb}
+use lib.Dec.{eqb}
 use lib.ListN.{length, getD, take, drop, length-drop}
 use lib.Seq.{drop-cons, take-all}
-use borrow.Author.Tests.{ne-eqb, eqb-true, eqb-false, le-ltb}
-use Rattle.picture.proofs.Dots.{split}
+use borrow.Author.Tests.{ne-eqb, eqb-true, eqb-false}
+use Rattle.text.specs.Pieces.{tab, attached, fieldsOf}
+use Rattle.text.specs.Numbers.{isNumber}
+use Rattle.text.specs.Found.{Found}
+use Rattle.text.proofs.Laws.{split, at-tabs, joins, found-cut, found-whole, one-or-tab, no-digits}
 use Rattle.panel.specs.declared.parse.Record.{Record}
 use Rattle.panel.specs.declared.parse.Record.the-variants.{Malformed}
-use Rattle.panel.specs.Text.{attached, fieldsOf, digitValue, areDigits, isNumber}
 use Rattle.panel.specs.Record.{letterOf, recordBy, recordOf}
-use Rattle.panel.specs.Found.{Found}
-use Rattle.panel.proofs.Numbers.{no-digits}
-use Rattle.panel.proofs.Pieces.{at-tabs, joins, found-cut, found-whole}
 
 module _ (l : ℕ) (f g : List ℕ) where
   -- one field or more than three
@@ -57,60 +56,32 @@ long-letter x y (l ∷ ls) = rw (ne-eqb (suc (suc (length l))) 1 (λ e. omega ar
 
 module _ (x : ℕ) (bs : List ℕ) where
   -- no tab behind the letter
-  no-tab : (y : ℕ) → (y ≡ 9 → ⊥) → recordOf (x ∷ y ∷ bs) ≡ Malformed
+  no-tab : (y : ℕ) → (y ≡ tab → ⊥) → recordOf (x ∷ y ∷ bs) ≡ Malformed
   unfolding recordOf recordBy letterOf fieldsOf
   no-tab y h =
       ⊎-elim
       (λ t. rw t)
       (λ t.
-      let parts = joins at-tabs x (y ∷ bs) (eqb-false x 9 t) ∙ ap (attached x) (joins at-tabs y bs h) in
+      let parts = joins at-tabs x (y ∷ bs) (eqb-false x tab t) ∙ ap (attached x) (joins at-tabs y bs h) in
       ap byFields parts ∙ long-letter x y (fieldsOf bs))
-      (split (eqb x 9))
+      (split (eqb x tab))
 
   -- a tab behind the letter
-  lettered : recordOf (x ∷ 9 ∷ bs) ≡ byFields ((x ∷ []) ∷ fieldsOf bs)
+  lettered : recordOf (x ∷ tab ∷ bs) ≡ byFields ((x ∷ []) ∷ fieldsOf bs)
   unfolding recordOf recordBy fieldsOf letterOf attached
-  lettered = ⊎-elim (λ t. rw (t, eqb-true x 9 t)) (λ t. rw t) (split (eqb x 9))
+  lettered = ⊎-elim (λ t. rw (t, eqb-true x tab t)) (λ t. rw t) (split (eqb x tab))
 
 -- a line of fewer than three bytes
 pub short : (line : List ℕ) → length line < 3 → recordOf line ≡ Malformed
 unfolding recordOf recordBy fieldsOf letterOf attached
 short [] h = refl
-short (x ∷ []) h = ⊎-elim (λ t. rw t) (λ t. rw t (other-count x [] [] 1 (λ e. omega arith) (λ e. omega arith))) (split (eqb x 9))
+short (x ∷ []) h = ⊎-elim (λ t. rw t) (λ t. rw t (other-count x [] [] 1 (λ e. omega arith) (λ e. omega arith))) (split (eqb x tab))
 short (x ∷ y ∷ []) h =
     ⊎-elim
-    (λ t. rw (eqb-true y 9 t) (lettered x [] ∙ empty-field x 2 []))
-    (λ t. no-tab x [] y (eqb-false y 9 t))
-    (split (eqb y 9))
+    (λ t. rw (eqb-true y tab t) (lettered x [] ∙ empty-field x 2 []))
+    (λ t. no-tab x [] y (eqb-false y tab t))
+    (split (eqb y tab))
 short (x ∷ y ∷ z ∷ bs) h = absurd (omega arith)
-
--- a byte put before them leaves no fewer fields
-no-fewer : (b : ℕ) (ls : List (List ℕ)) → length ls ≤ length (attached b ls)
-unfolding attached
-no-fewer b [] = omega arith
-no-fewer b (l ∷ ls) = omega arith
-
--- a line has a field
-some-field : (t : List ℕ) → 0 < length (fieldsOf t)
-unfolding fieldsOf
-some-field [] = omega arith
-some-field (b ∷ bs) =
-    ⊎-elim (λ t. rw t (omega arith)) (λ t. rw t (omega (arith, some-field bs, no-fewer b (fieldsOf bs)))) (split (eqb b 9))
-
--- a text is one field, or it has a tab, which is no digit
-tabs : (t : List ℕ)
-    → (fieldsOf t ≡ t ∷ []) ⊎ ((1 < length (fieldsOf t)) × ((base : ℕ) → base ≤ 16 → areDigits base t ≡ false))
-unfolding fieldsOf attached areDigits digitValue
-tabs [] = inl refl
-tabs (b ∷ bs) =
-    ⊎-elim
-    (λ t. inr (rw t (omega (arith, some-field bs)), λ base small. rw (eqb-true b 9 t) (rw (le-ltb 16 base small))))
-    (λ t.
-    ⊎-elim
-    (λ (e : fieldsOf bs ≡ bs ∷ []). inl (rw t (rw e)))
-    (λ p. inr (rw t (omega (arith, p .0, no-fewer b (fieldsOf bs))), λ base small. rw (p .1 base small) (and-false (ltb (digitValue b) base))))
-    (tabs bs))
-    (split (eqb b 9))
 
 -- whatever stands behind the second tab is taken for the last field: with a third tab it is no number
 last-field : (l : ℕ) (f t : List ℕ) → recordBy l (suc (suc (length (fieldsOf t)))) f (getD (fieldsOf t) 0 []) ≡ recordBy l 3 f t
@@ -120,7 +91,7 @@ last-field l f t =
     (λ p.
     other-count l f (getD (fieldsOf t) 0 []) (suc (suc (length (fieldsOf t)))) (λ e. omega (arith, p .0)) (λ e. omega (arith, p .0))
     ∙ sym (bad-last l f t (no-digits 16 2 t (p .1 16 (omega arith))) (no-digits 10 3 t (p .1 10 (omega arith)))))
-    (tabs t)
+    (one-or-tab t)
 
 -- a line of three bytes or more: its letter, what stands behind that, and the rest
 module _ (line : List ℕ) (long : 2 < length line) where
@@ -128,13 +99,13 @@ module _ (line : List ℕ) (long : 2 < length line) where
   shape = drop-cons line 0 0 (omega arith) ∙ ap (λ (l : List ℕ). getD line 0 0 ∷ l) (drop-cons line 1 0 (omega arith))
 
   -- no tab behind the letter
-  pub untabbed : (getD line 1 0 ≡ 9 → ⊥) → recordOf line ≡ Malformed
+  pub untabbed : (getD line 1 0 ≡ tab → ⊥) → recordOf line ≡ Malformed
   untabbed h = ap recordOf shape ∙ no-tab (getD line 0 0) (drop 2 line) (getD line 1 0) h
 
   -- a tab there: the fields by the search for the next
-  module _ {e : ℕ} (tab : getD line 1 0 ≡ 9) (f : Found line 2 9 e) where
+  module _ {e : ℕ} (here : getD line 1 0 ≡ tab) (f : Found line 2 tab e) where
     behind : recordOf line ≡ byFields ((getD line 0 0 ∷ []) ∷ fieldsOf (drop 2 line))
-    behind = ap recordOf (shape ∙ ap (λ (y : ℕ). getD line 0 0 ∷ y ∷ drop 2 line) tab) ∙ lettered (getD line 0 0) (drop 2 line)
+    behind = ap recordOf (shape ∙ ap (λ (y : ℕ). getD line 0 0 ∷ y ∷ drop 2 line) here) ∙ lettered (getD line 0 0) (drop 2 line)
 
     -- none: one field behind the letter
     pub one-field : e ≡ length line → recordOf line ≡ recordBy (getD line 0 0) 2 (take (e - 2) (drop 2 line)) []

@@ -4,13 +4,13 @@ use mathlib.Core.Path.{_≡_, refl}
 use mathlib.Core.Bool.{Bool}
 use mathlib.Core.List.{List, []}
 use Prim.Native.Nat.{ℕ, _+_, _≤_}
+use Rattle.text.specs.Wrote.{Wrote}
 use Rattle.gdp.specs.declared.state.Gdp.{Gdp}
 use Rattle.gdp.specs.declared.state.Answer.{Answer}
 use Rattle.gdp.specs.Calls.{written, readOut, granted, blanked, struck, Leaves}
 use Rattle.panel.specs.declared.parse.Record.the-variants.{Write, Read, Cycles, Blanking, Edge}
 use Rattle.panel.specs.Answer.{lineR, lineT, answered}
 use Rattle.panel.specs.Panel.{glyphs, stateAfter, pictureAfter, answerTo}
-use Rattle.panel.specs.Wrote.{Wrote}
 use Rattle.panel.specs.Played.{Stepped}
 
 module _ {k : ℕ} {s : Gdp} {out after : List ℕ} {at end : ℕ} {r : Answer} where

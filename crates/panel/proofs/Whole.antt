@@ -5,13 +5,13 @@ use mathlib.Core.List.{List, _++_}
 use Prim.Native.Nat.{ℕ, _≤_, _<_}
 use lib.ListN.{length, take}
 use borrow.Author.Tests.{lt-ltb, le-ltb}
+use Rattle.text.specs.Pieces.{linesOf}
+use Rattle.text.specs.Wrote.{Wrote}
+use Rattle.text.proofs.Laws.{wrote-more}
 use Rattle.parts.specs.declared.format.Format.the-variants.{Ef9366}
 use Rattle.gdp.specs.State.{fresh}
-use Rattle.panel.specs.Text.{linesOf}
 use Rattle.panel.specs.Answer.{lineG, lineE}
 use Rattle.panel.specs.Panel.{dark, answers, shown, dotLines, panel}
-use Rattle.panel.specs.Wrote.{Wrote}
-use Rattle.panel.proofs.Writing.{wrote-more}
 
 -- past 65,536 bytes: only E, 0, 21
 pub panel-long : (input : List ℕ) → 65536 < length input → panel input ≡ lineE 0 21

@@ -4,7 +4,8 @@ use Prim.Native.Nat.{ℕ, _/_, _%_}
 use mathlib.Core.Bool.{cond}
 use mathlib.Core.List.{List, [], _∷_, _++_}
 use lib.Dec.{eqb}
-use Rattle.panel.specs.Text.{tab, lineFeed, hexDigit, decimal}
+use Rattle.text.specs.Pieces.{tab, lineFeed}
+use Rattle.text.specs.Numbers.{hexDigit, decimal}
 
 -- G, 9366
 unfoldable pub lineG : List ℕ

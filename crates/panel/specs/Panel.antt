@@ -6,6 +6,7 @@ use mathlib.Core.Bool.{cond}
 use mathlib.Core.List.{List, [], _∷_, _++_}
 use lib.Dec.{ltb}
 use lib.ListN.{length, replicate, take}
+use Rattle.text.specs.Pieces.{linesOf}
 use Rattle.picture.specs.Dot.{dotAt}
 use Rattle.parts.specs.declared.format.Format.the-variants.{Ef9366}
 use Rattle.gdp.specs.declared.state.Gdp.{Gdp}
@@ -13,7 +14,6 @@ use Rattle.gdp.specs.State.{fresh}
 use Rattle.gdp.specs.Calls.{written, readOut, granted, blanked, struck}
 use Rattle.panel.specs.declared.parse.Record.{Record}
 use Rattle.panel.specs.declared.parse.Record.the-variants.{Write, Read, Cycles, Blanking, Edge, Malformed}
-use Rattle.panel.specs.Text.{linesOf}
 use Rattle.panel.specs.Record.{recordOf}
 use Rattle.panel.specs.Answer.{lineG, lineR, lineT, lineE, lineP, answered}
 

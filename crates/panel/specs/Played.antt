@@ -4,10 +4,10 @@ use mathlib.Core.Path.{_≡_}
 use Prim.Native.Nat.{ℕ, _+_, _≤_, _<_}
 use mathlib.Core.List.{List}
 use lib.ListN.{length}
+use Rattle.text.specs.Wrote.{Wrote}
 use Rattle.gdp.specs.declared.state.Gdp.{Gdp}
 use Rattle.panel.specs.declared.parse.Record.{Record}
 use Rattle.panel.specs.Panel.{stateAfter, pictureAfter, answerTo}
-use Rattle.panel.specs.Wrote.{Wrote}
 
 -- room for the answer to line k behind the first `at` bytes of a buffer
 pub record Room (k at : ℕ) (out : List ℕ) : Type 0 where

@@ -5,9 +5,10 @@ use mathlib.Core.Bool.{cond, _&&_}
 use mathlib.Core.List.{List, []}
 use lib.Dec.{eqb, leb}
 use lib.ListN.{length, getD}
+use Rattle.text.specs.Pieces.{fieldsOf}
+use Rattle.text.specs.Numbers.{isNumber, numberFrom}
 use Rattle.panel.specs.declared.parse.Record.{Record}
 use Rattle.panel.specs.declared.parse.Record.the-variants.{Write, Read, Cycles, Blanking, Edge, Malformed}
-use Rattle.panel.specs.Text.{fieldsOf, isNumber, numberFrom}
 
 -- the letter of a record: its first field, of one byte (0 is no letter)
 unfoldable pub letterOf : List ℕ → ℕ

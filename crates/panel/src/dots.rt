@@ -7,12 +7,12 @@ ghost use lib.ListN.{length};
 ghost use Rattle.picture.specs.Bit.{bitAt};
 ghost use Rattle.panel.specs.Answer.{lineP};
 ghost use Rattle.panel.specs.Panel.{dotLines};
-ghost use Rattle.panel.specs.Wrote.{Wrote};
+ghost use Rattle.text.specs.Wrote.{Wrote};
 use crate::output::put_p;
 use picture::dot::bit_at;
 
 // The line of dot d, of byte v, where it is lit.
-fn put_dot(out: &mut [u8], at: usize, v: u8, d: usize) -> usize
+fn put_dot_line(out: &mut [u8], at: usize, v: u8, d: usize) -> usize
     requires { ⌜ (d < 131072) × (at + 14 ≤ length (now out)) ⌝ }
     ensures { λ r. ⌜ Wrote (now (out .entry)) at (cond (bitAt (d % 8) v) (lineP (d % 512) (d / 512)) []) (now (out .exit)) r × (r ≤ at + 10) ⌝ }
 {
@@ -34,7 +34,7 @@ fn put_byte(pic: &[u8], out: &mut [u8], at: usize, i: usize) -> usize
     let mut r = at;
     let mut k = 0;
     while k < 8 {
-        r = put_dot(out, r, v, 8 * i + k);
+        r = put_dot_line(out, r, v, 8 * i + k);
         k += 1;
     }
     r

@@ -1,7 +1,6 @@
 // The panel: a log of calls in, the answers and the screen's dots out.
 // Proved: for every input the bytes written are exactly those of specs/Panel, and the buffer's bound suffices.
 // Assumes nothing.
-mod digits;
 mod dots;
 pub mod log;
 mod output;

@@ -1,12 +1,10 @@
 // The records of a log: what a line means.
 ghost use mathlib.Core.Path.{_≡_};
 ghost use mathlib.Core.List.{[]};
-ghost use Prim.Native.Nat.{_≤_, _<_};
-ghost use lib.ListN.{length};
 ghost use Rattle.panel.specs.Record.{recordBy, recordOf};
-ghost use Rattle.panel.specs.Found.{Found};
-ghost use Rattle.panel.specs.Taken.{Taken};
-use crate::digits::digit_value;
+use text::TAB;
+use text::find::find;
+use text::number::number_of;
 
 pub enum Record {
     Write { address: u8, value: u8 },
@@ -15,51 +13,6 @@ pub enum Record {
     Blanking { level: bool },
     Edge { h: u16, v: u16 },
     Malformed,
-}
-
-// A field read as a number, where it is one.
-struct Number {
-    ok: bool,
-    n: u32,
-}
-
-// The place of the first byte b from a place on, or the end.
-pub fn find(s: &[u8], from: usize, b: u8) -> usize
-    requires { ⌜ from ≤ length (now s) ⌝ }
-    ensures { λ r. ⌜ Found (now (s .entry)) from b r ⌝ }
-{
-    let mut i = from;
-    while i < s.len() {
-        if s[i] == b {
-            return i;
-        }
-        i += 1;
-    }
-    i
-}
-
-// A field of one to `most` digits of a base; ok only where it is one.
-fn number_of(f: &[u8], base: u32, most: usize) -> Number
-    requires { ⌜ (0 < base) × (base ≤ 16) × (most ≤ 5) ⌝ }
-    ensures { λ r. ⌜ Taken base most (now (f .entry)) (r .ok) (r .n) ⌝ }
-{
-    if f.len() == 0 {
-        return Number { ok: false, n: 0 };
-    }
-    if most < f.len() {
-        return Number { ok: false, n: 0 };
-    }
-    let mut n: u32 = 0;
-    let mut i = 0;
-    while i < f.len() {
-        let d = digit_value(f[i]) as u32;
-        if base <= d {
-            return Number { ok: false, n: 0 };
-        }
-        n = n * base + d;
-        i += 1;
-    }
-    Number { ok: true, n: n }
 }
 
 // A record of one field behind its letter: R, T or V.
@@ -130,10 +83,10 @@ pub fn parse(line: &[u8]) -> Record
     if line.len() < 3 {
         return Record::Malformed;
     }
-    if line[1] != 9 {
+    if line[1] != TAB {
         return Record::Malformed;
     }
-    let e = find(line, 2, 9);
+    let e = find(line, 2, TAB);
     let f = &line[2..e];
     if e == line.len() {
         return parse_one(line[0], f);

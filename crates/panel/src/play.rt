@@ -6,7 +6,7 @@ ghost use Rattle.panel.specs.declared.parse.Record.{Record};
 ghost use Rattle.panel.specs.Answer.{answered};
 ghost use Rattle.panel.specs.Panel.{glyphs};
 ghost use Rattle.panel.specs.Played.{Room, Stepped};
-ghost use Rattle.panel.specs.Wrote.{Wrote};
+ghost use Rattle.text.specs.Wrote.{Wrote};
 use crate::output::put_e;
 use crate::output::put_r;
 use crate::output::put_t;

@@ -5,13 +5,14 @@ ghost use lib.ListN.{length};
 ghost use Rattle.parts.specs.declared.format.Format.{Format};
 ghost use Rattle.gdp.specs.State.{fresh};
 ghost use Rattle.panel.specs.Panel.{glyphs, dark, answers, shown};
-ghost use Rattle.panel.specs.Text.{linesOf};
-ghost use Rattle.panel.specs.Wrote.{Wrote};
-use crate::parse::find;
+ghost use Rattle.text.specs.Pieces.{linesOf};
+ghost use Rattle.text.specs.Wrote.{Wrote};
 use crate::parse::parse;
 use crate::play::play_record;
 use gdp::state::Gdp;
 use parts::format::Format;
+use text::LINE_FEED;
+use text::find::find;
 
 // The answers to all lines behind the first `start` bytes; the picture is left as the last line leaves it.
 pub fn play_lines(input: &[u8], pic: &mut [u8], table: &[u8], out: &mut [u8], start: usize) -> usize
@@ -24,7 +25,7 @@ pub fn play_lines(input: &[u8], pic: &mut [u8], table: &[u8], out: &mut [u8], st
     let mut from = 0;
     let mut line: u32 = 1;
     while from < input.len() {
-        let e = find(input, from, 10);
+        let e = find(input, from, LINE_FEED);
         let what = parse(&input[from..e]);
         let step = play_record(s, line, what, pic, table, out, at);
         let next = step.state;

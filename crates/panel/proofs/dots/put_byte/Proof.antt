@@ -6,8 +6,8 @@ use Prim.Native.Nat.{_+_, _*_, _-_, _≤_}
 use native.Mathlib.Omega.{arith}
 use borrow.Author.Needs.{needs}
 use Rattle.panel.specs.Panel.{dotLines}
-use Rattle.panel.specs.Wrote.{Wrote}
-use Rattle.panel.proofs.Writing.{wrote-none, wrote-more}
+use Rattle.text.specs.Wrote.{Wrote}
+use Rattle.text.proofs.Laws.{wrote-none, wrote-more}
 use Rattle.panel.proofs.DotLines.{lines-dot, byte-dark}
 use Rattle.panel.proofs.dots.put_byte.Statement.{statement}
 use Rattle.panel.proofs.dots.put_byte.Tie as tie
@@ -31,7 +31,7 @@ loop-again c =
     let at = put .before .before .before in
     let start = at .before .before .before .before .before in
     let text = lines-dot (start .args .pic .now) (start .args .i) (at .loop .k) (put .before .before .loop-test .taken) in
-    (omega arith, rw text (wrote-more (at .loop .inv .1) (put .put-dot .ensures .0)), omega arith)
+    (omega arith, rw text (wrote-more (at .loop .inv .1) (put .put-dot-line .ensures .0)), omega arith)
 
 returns-2 : tie.Need-returns-2 Inv-loop μ-loop
 returns-2 c =

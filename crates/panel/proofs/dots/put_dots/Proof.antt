@@ -6,8 +6,8 @@ use Prim.Native.Nat.{_+_, _*_, _-_, _≤_}
 use native.Mathlib.Omega.{arith}
 use borrow.Author.Needs.{needs}
 use Rattle.panel.specs.Panel.{dotLines}
-use Rattle.panel.specs.Wrote.{Wrote}
-use Rattle.panel.proofs.Writing.{wrote-none, wrote-more}
+use Rattle.text.specs.Wrote.{Wrote}
+use Rattle.text.proofs.Laws.{wrote-none, wrote-more}
 use Rattle.panel.proofs.DotLines.{lines-byte}
 use Rattle.panel.proofs.dots.put_dots.Statement.{statement}
 use Rattle.panel.proofs.dots.put_dots.Tie as tie

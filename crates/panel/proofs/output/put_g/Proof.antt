@@ -2,15 +2,14 @@
 -- Assumes nothing.
 use native.Mathlib.Omega.{arith}
 use borrow.Author.Needs.{needs}
-use Rattle.panel.specs.Text.{decimal, decimalBy}
+use Rattle.text.specs.Numbers.{decimal, decimalBy}
 use Rattle.panel.specs.Answer.{lineG}
-use Rattle.panel.proofs.Writing.{wrote-more}
-use Rattle.panel.proofs.Decimals.{digits-4}
+use Rattle.text.proofs.Laws.{decimal-length, wrote-more}
 use Rattle.panel.proofs.output.put_g.Statement.{statement}
 use Rattle.panel.proofs.output.put_g.Tie as tie
 
 put-requires : tie.Need-put-requires
-put-requires c κs = omega (arith, digits-4 9366 (omega arith))
+put-requires c κs = omega (arith, decimal-length 9366 3 (omega arith))
 
 returns : tie.Need-returns
 unfolding lineG decimal decimalBy

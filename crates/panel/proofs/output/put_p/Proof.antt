@@ -2,7 +2,7 @@
 -- Assumes nothing.
 use borrow.Author.Needs.{needs}
 use Rattle.panel.specs.Answer.{lineP}
-use Rattle.panel.proofs.Writing.{wrote-within}
+use Rattle.text.proofs.Laws.{wrote-within}
 use Rattle.panel.proofs.LineLengths.{lineP-length}
 use Rattle.panel.proofs.output.put_p.Statement.{statement}
 use Rattle.panel.proofs.output.put_p.Tie as tie

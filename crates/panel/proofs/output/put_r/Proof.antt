@@ -2,7 +2,7 @@
 -- Assumes nothing.
 use borrow.Author.Needs.{needs}
 use Rattle.panel.specs.Answer.{lineR}
-use Rattle.panel.proofs.Writing.{wrote-more}
+use Rattle.text.proofs.Laws.{wrote-more}
 use Rattle.panel.proofs.output.put_r.Statement.{statement}
 use Rattle.panel.proofs.output.put_r.Tie as tie
 

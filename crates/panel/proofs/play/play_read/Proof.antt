@@ -2,7 +2,7 @@
 -- Assumes nothing.
 use borrow.Author.Needs.{needs}
 use native.Mathlib.Omega.{arith}
-use Rattle.panel.proofs.Writing.{wrote-within}
+use Rattle.text.proofs.Laws.{wrote-within}
 use Rattle.panel.proofs.LineLengths.{lineR-length}
 use Rattle.panel.proofs.Answers.{answer-given, answer-refused, read-small, read-address}
 use Rattle.panel.proofs.Steps.{read-stepped}

@@ -2,7 +2,7 @@
 -- Assumes nothing.
 use borrow.Author.Needs.{needs}
 use native.Mathlib.Omega.{arith}
-use Rattle.panel.proofs.Writing.{wrote-none}
+use Rattle.text.proofs.Laws.{wrote-none}
 use Rattle.panel.proofs.Answers.{answer-given, answer-refused}
 use Rattle.panel.proofs.play.put_refusal.Statement.{statement}
 use Rattle.panel.proofs.play.put_refusal.Tie as tie

@@ -1,0 +1,8 @@
+pub mod Laws
+mod Cases
+mod Decimals
+mod Numbers
+mod Pieces
+mod Fields
+mod Lines
+mod Writing

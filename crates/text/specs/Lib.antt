@@ -1,0 +1,5 @@
+pub mod Pieces
+pub mod Numbers
+pub mod Found
+pub mod Taken
+pub mod Wrote
