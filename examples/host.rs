@@ -20,7 +20,7 @@ const _: () = assert!(size_of::<State>() == 16 && align_of::<State>() == 2);
 const _: () = assert!(size_of::<Answer>() == 20 && std::mem::offset_of!(Answer, state) == 4);
 
 // Safe to call with any numbers, as long as each pointer comes with the length of its own memory.
-#[link(name = "boundary", kind = "static")]
+#[link(name = "gdp", kind = "static")]
 extern "C" {
     fn gdp_fresh(format: u8) -> Answer;
     fn gdp_write(state: State, address: u8, value: u8) -> Answer;

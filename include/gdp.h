@@ -1,5 +1,5 @@
-/* The EF9365 / EF9366 for C11 and C++11: link with libboundary.a, which `rt staticlib boundary` makes (README.md) for
-   x86-64 and its System V calling convention.
+/* The EF9365 / EF9366 for C11 and C++11: link with libgdp.a, which `rt staticlib gdp` makes (README.md) for x86-64 and
+   its System V calling convention.
 
    A call takes the state by value and hands back the next one. The library keeps nothing, allocates nothing, has no
    variables of its own and needs only memset: it is reentrant, from several threads and from interrupts alike.
@@ -63,22 +63,25 @@ enum {
 };
 
 /* The state. Make it by gdp_fresh and hand on what each call answers; it may be copied, kept and read freely.
-   Refused with 1: x or y above 4,095; ctrl1 above 127; ctrl2 above 15; bit 1 of xlp high; a code that takes no cycles,
-   or a character's with tilt high; done not below the code's cycles; VB high inside an open frame of a clear or the
-   pen; a two-bit field that is 3; anything but 0 where a field is not in use. */
+   Refused with 1: x or y above 4,095; ctrl1 above 127; ctrl2 above 15; bit 1 of xlp high; a command that steps and takes
+   no cycles, or is a character with tilt high, or has a done that is not below its cycles; VB high inside an open frame
+   of a clear or the pen; and a number that names no format, no kind of work or no pen sequence, for such bytes cannot be
+   read as a state. What is not in use is not looked at: done and code where no command steps, the bits of a clear where
+   none runs, the bits that are named so below. An accepted call hands it back as 0, a refusal as it came. */
 typedef struct gdp_state {
     uint16_t x, y;    /* 12 bits each; while a command steps, the place of its next cycle */
-    uint16_t done;    /* the cycles that the stepping command has used; else 0 */
+    uint16_t done;    /* the cycles that the stepping command has used; else not in use */
     uint8_t ctrl1;    /* 7 bits: 0 down, 1 pen (else eraser), 2 fast writing, 3 cyclic screen; 4 to 6 let the rise of
                          pen end, VB and ready set its flag */
     uint8_t ctrl2;    /* 4 bits: 0 and 1 line type, 2 tilt, 3 turned */
     uint8_t csize;    /* P in the upper half, Q in the lower; 0 means 16 */
     uint8_t deltax, deltay;
     uint8_t xlp, ylp; /* where the light pen was */
-    uint8_t code;     /* the command that steps; else 0 */
-    uint8_t modes;    /* bits 0-1 the format; 2-3 what runs: 0 nothing, 1 a command that steps, 2 a clear; 4 the clear
-                         is 0C; 5 its frame is open; 6-7 the pen sequence: 0 none, 1 waiting for its frame, 2 in it */
-    uint8_t signals;  /* bit 0 VB; flags: 1 pen end, 2 VB, 3 ready; 4 to 7 not in use */
+    uint8_t code;     /* the command that steps; else not in use */
+    uint8_t modes;    /* bits 0-2 the format; 3-4 what runs: 0 nothing, 1 a command that steps, 2 a clear; 5 the clear
+                         is 0C; 6 its frame is open; 7 not in use */
+    uint8_t signals;  /* bit 1 VB; 2-3 the pen sequence: 0 none, 1 waiting for its frame, 2 in it; flags, where STATUS
+                         has them: 4 pen end, 5 VB, 6 ready; 0 and 7 not in use */
 } gdp_state;
 
 typedef struct gdp_answer {

@@ -1,6 +1,8 @@
 /* Every refusal number, from every call that can give it, through include/gdp.h. Held: the number is the lowest that
    applies; the value is 0, and state and lent memory are as handed in. Null pointers with length 0 are among the
-   memories. What answers otherwise is told, and the exit status is then 1. tools/hosts runs it. */
+   memories. And what is not in use is not looked at: a state with left-overs is answered as the same without them,
+   only that a refusal hands them back. What answers otherwise is told, and the exit status is then 1. tools/hosts
+   runs it. */
 #include "gdp.h"
 
 #include <stdio.h>
@@ -93,7 +95,9 @@ static void bad(gdp_state s) {
     address(s, GDP_BAD_STATE);
 }
 
-enum { STEPS = 1 << 2, CLEAR = 2 << 2, IS_0C = 1 << 4, CLEAR_OPEN = 1 << 5, PEN_OPEN = 2 << 6, VB = 1 };
+/* The bits of modes, and of signals. */
+enum { FORMAT = 7, STEPS = 1 << 3, CLEAR = 2 << 3, WORK = 3 << 3, IS_0C = 1 << 5, CLEAR_OPEN = 1 << 6 };
+enum { VB = 1 << 1, PEN_OPEN = 2 << 2, PEN = 3 << 2 };
 
 /* The causes that gdp_state's comment lists, each by itself in a state that is else good. */
 static void bad_states(gdp_state good) {
@@ -113,15 +117,81 @@ static void bad_states(gdp_state good) {
     WITH((s.modes = f | STEPS, s.code = 0x0F, s.done = 1));
     WITH((s.modes = f | STEPS, s.code = 0x41, s.done = 48));
     WITH((s.modes = f | CLEAR | CLEAR_OPEN, s.signals = VB));
-    WITH((s.modes = f | PEN_OPEN, s.signals = VB));
-    WITH(s.modes |= 3);
-    WITH(s.modes |= 3 << 2);
-    WITH(s.modes |= 3 << 6);
-    WITH(s.modes |= IS_0C);
-    WITH(s.modes |= CLEAR_OPEN);
-    WITH(s.code = 0x11);
-    WITH(s.done = 1);
-    WITH(s.signals = 16);
+    WITH(s.signals = PEN_OPEN | VB);
+    for (unsigned number = 3; number <= FORMAT; number++)
+        WITH(s.modes = (uint8_t)number);
+    WITH(s.modes |= WORK);
+    WITH(s.signals |= PEN);
+#undef WITH
+}
+
+/* Both answers are the same, but that a refusal hands back the state as it came, left-overs and all. */
+static void alike(const char *call, gdp_answer clean, gdp_state left, gdp_answer found, int unchanged) {
+    const gdp_state *state = clean.number ? &left : &clean.state;
+    int same = found.value == clean.value && memcmp(&found.state, state, sizeof left) == 0;
+    judge(same && unchanged, call, found.number, clean.number);
+}
+
+static void grants_alike(gdp_state clean, gdp_state left, uint16_t cycles, size_t length, size_t table_length) {
+    uint8_t *picture = lent(length), *other = lent(length), *table = lent(table_length);
+    gdp_answer a = gdp_grant(clean, cycles, picture, length, table, table_length);
+    gdp_answer b = gdp_grant(left, cycles, other, length, table, table_length);
+    alike("gdp_grant with left-overs", a, left, b, length == 0 || memcmp(picture, other, length) == 0);
+    free(picture);
+    free(other);
+    free(table);
+}
+
+static void blanks_alike(gdp_state clean, gdp_state left, uint8_t level, size_t length) {
+    uint8_t *picture = lent(length), *other = lent(length);
+    gdp_answer a = gdp_set_vb(clean, level, picture, length), b = gdp_set_vb(left, level, other, length);
+    alike("gdp_set_vb with left-overs", a, left, b, length == 0 || memcmp(picture, other, length) == 0);
+    free(picture);
+    free(other);
+}
+
+/* Every call, with a state and with the same and something left over. */
+static void left_over(gdp_state clean, gdp_state left, size_t right) {
+    for (unsigned a = 0; a < 18; a++) {
+        for (unsigned v = 0; v < 256; v += a ? 85 : 1)
+            alike("gdp_write with left-overs", gdp_write(clean, (uint8_t)a, (uint8_t)v), left,
+                  gdp_write(left, (uint8_t)a, (uint8_t)v), 1);
+        alike("gdp_read with left-overs", gdp_read(clean, (uint8_t)a), left, gdp_read(left, (uint8_t)a), 1);
+    }
+    grants_alike(clean, left, 0, right, GDP_TABLE_BYTES);
+    grants_alike(clean, left, 7, right, GDP_TABLE_BYTES);
+    grants_alike(clean, left, 65535, right, GDP_TABLE_BYTES);
+    grants_alike(clean, left, 65535, right, 0);
+    grants_alike(clean, left, 65535, right + 1, GDP_TABLE_BYTES);
+    blanks_alike(clean, left, 0, right);
+    blanks_alike(clean, left, 1, right);
+    blanks_alike(clean, left, 1, 0);
+    alike("gdp_lpck with left-overs", gdp_lpck(clean, 10, 20), left, gdp_lpck(left, 10, 20), 1);
+    alike("gdp_lpck with left-overs", gdp_lpck(clean, 64, 20), left, gdp_lpck(left, 64, 20), 1);
+    gdp_outputs o = gdp_address(clean), p = gdp_address(left);
+    judge(memcmp(&o, &p, sizeof o) == 0, "gdp_address with left-overs", p.number, GDP_ACCEPTED);
+}
+
+/* What is not in use in a state where nothing runs, a command steps, or a clear runs, each by itself and together. */
+static void left_overs(gdp_state clean, size_t right) {
+    int steps = (clean.modes & WORK) == STEPS, clears = (clean.modes & WORK) == CLEAR;
+    uint8_t modes = clears ? 1 << 7 : 1 << 7 | IS_0C | CLEAR_OPEN, signals = 1 | 1 << 7;
+    gdp_state s;
+#define WITH(change) (s = clean, change, left_over(clean, s, right))
+    for (unsigned bit = 1; bit < 256; bit *= 2) {
+        if (bit & modes)
+            WITH(s.modes |= (uint8_t)bit);
+        if (bit & signals)
+            WITH(s.signals |= (uint8_t)bit);
+    }
+    if (!steps) {
+        WITH(s.code = 0x11);
+        WITH(s.code = 0x05);
+        WITH(s.done = 1);
+        WITH(s.done = 65535);
+        WITH((s.code = 255, s.done = 65535, s.modes |= modes, s.signals |= signals));
+    }
+    WITH((s.modes |= modes, s.signals |= signals));
 #undef WITH
 }
 
@@ -196,6 +266,14 @@ int main(void) {
         good(tilted, lengths[f], 0, 1);
         good(put(tilted, GDP_CMD, 0x11, GDP_ACCEPTED), lengths[f], 1, 1);
         bad_states(idle);
+        const gdp_state states[] = {idle, tilted, letter, clear, put(idle, GDP_CMD, 0x0C, GDP_ACCEPTED),
+                                    put(idle, GDP_CMD, 0x08, GDP_ACCEPTED)};
+        for (unsigned i = 0; i < sizeof states / sizeof *states; i++) {
+            gdp_state high = set_vb(states[i], 1, lengths[f], GDP_ACCEPTED);
+            left_overs(states[i], lengths[f]);
+            left_overs(high, lengths[f]);
+            left_overs(set_vb(high, 0, lengths[f], GDP_ACCEPTED), lengths[f]);
+        }
     }
     printf("%u calls answered as they should, %u not\n", passed, failed);
     return failed > 0;

@@ -8,29 +8,29 @@ use Prim.Native.Nat.{ℕ, _+_, _-_, _*_, _/_, _≤_, _<_}
 use native.Mathlib.Nat.{add-assoc, zero-add}
 use native.Mathlib.Omega.{arith}
 use lib.Arith.{digits-div}
-use Rattle.picture.specs.Dot.{paint, gathered, upFrom}
+use Rattle.picture.specs.Dot.{paint, gathered}
+use Rattle.picture.specs.Working.Runs.{upFrom}
 use Rattle.picture.specs.Screen.{dotNumber}
-use Rattle.picture.proofs.Dots.{split}
-use Rattle.picture.proofs.Order.{gathered-along, gathered-none, gathered-columns, paint-alike, paint-back, paint-rows}
-use Rattle.picture.proofs.Screens.{place-own}
+use Rattle.basis.proofs.Cases.{split}
+use Rattle.picture.proofs.Laws.{gathered-along, gathered-none, gathered-columns, paint-alike, paint-back, paint-rows, place-own}
 use Rattle.motion.specs.declared.character.Body.{Body}
 use Rattle.motion.specs.declared.character.Cell.{Cell}
 use Rattle.motion.specs.Position.{ahead, signed}
-use Rattle.motion.specs.Character.{uOf, vOf, columnOf, rowOf, bodyX, bodyY, Counts, OnPlace}
+use Rattle.motion.specs.Character.{uOf, vOf, columnOf, rowOf, bodyX, bodyY}
+use Rattle.motion.specs.Working.Cells.{Counts, OnPlace}
 use Rattle.motion.specs.Glyph.{inked}
-use Rattle.motion.proofs.Counting.{Splits, splits, whole}
-use Rattle.motion.proofs.Characters.{x-at, y-at}
-use Rattle.motion.proofs.Cells.{split-i, split-u}
+use Rattle.motion.proofs.Laws.{Splits, splits, whole, x-at, y-at, split-i, split-u}
 use Rattle.drawing.specs.declared.tip.Tip.{Tip}
-use Rattle.drawing.specs.Run.{mark, markBox, bodyDot}
-use Rattle.drawing.specs.Column.{Fits, bandDots, AtFoot}
+use Rattle.drawing.specs.Run.{mark}
+use Rattle.drawing.specs.Working.Cycle.{markBox, bodyDot}
+use Rattle.drawing.specs.Working.Column.{Fits, bandDots, AtFoot}
 
 -- row v of a column's dots, from the cell at its first cycle
 unfoldable pub rowDots : Bool → Tip → Body → List ℕ → Cell → ℕ → List ℕ
 rowDots false t b glyph c v =
-    cond (t .down && inked glyph (c .column) (v / b .q)) (upFrom (dotNumber (t .width) (c .x) (c .y + v)) (b .p)) []
+    cond (t .down && inked glyph (c .column) (v / b .q)) (upFrom (dotNumber (t .window .width) (c .x) (c .y + v)) (b .p)) []
 rowDots true t b glyph c v =
-    cond (t .down && inked glyph (c .column) (v / b .q)) (gathered (λ y. dotNumber (t .width) (c .x - v) y ∷ []) (c .y) (b .p)) []
+    cond (t .down && inked glyph (c .column) (v / b .q)) (gathered (λ y. dotNumber (t .window .width) (c .x - v) y ∷ []) (c .y) (b .p)) []
 
 -- the rows of dots of one row of the glyph are a box
 pub band-rows : (turned : Bool) (t : Tip) (b : Body) (glyph : List ℕ) (c : Cell) {on : Bool} {v : ℕ} (row : ℕ) {m : ℕ}
@@ -42,7 +42,7 @@ band-rows false t b glyph c {on} {v} row {m} fits e at h top pic =
     let rows = rowDots false t b glyph c in
     ⊎-elim
     (λ d. rw d (ap (λ (ds : List ℕ). paint (t .lit) ds pic)
-    (sym (gathered-along rows (λ r. upFrom (dotNumber (t .width) (c .x) r) (b .p)) v (c .y + v) m
+    (sym (gathered-along rows (λ r. upFrom (dotNumber (t .window .width) (c .x) r) (b .p)) v (c .y + v) m
     (λ l k. rw (here l k, ← e, d, add-assoc))))))
     (λ d. rw d (ap (λ (ds : List ℕ). paint (t .lit) ds pic) (sym (gathered-none rows v m (λ l k. rw (here l k, ← e, d))))))
     (split (t .down && on))
@@ -50,15 +50,15 @@ band-rows true t b glyph c {on} {v} row {m} fits e at h top pic =
     let here : (l : ℕ) → l < m → (v + l) / b .q ≡ row = λ l k. rw at (digits-div row (omega arith)) in
     let rows = rowDots true t b glyph c in
     let left = (c .x + 1) - (v + m) in
-    let dot : ℕ → ℕ → List ℕ = λ y j. dotNumber (t .width) (c .x - j) y ∷ [] in
+    let dot : ℕ → ℕ → List ℕ = λ y j. dotNumber (t .window .width) (c .x - j) y ∷ [] in
     ⊎-elim
     (λ d. rw d
     (sym
     (ap (λ (ds : List ℕ). paint (t .lit) ds pic)
     (gathered-along rows (λ j. gathered (λ y. dot y j) (c .y) (b .p)) v v m (λ l k. rw (here l k, ← e, d)))
     ∙ sym (paint-rows (t .lit) dot (c .y) (b .p) v m pic)
-    ∙ paint-alike (t .lit) (λ y. gathered (dot y) v m) (λ y. upFrom (dotNumber (t .width) left y) m) (c .y) (b .p)
-    (λ y q. paint-back (t .lit) (λ j. dotNumber (t .width) (c .x - j) y) (dotNumber (t .width) left y) v m (λ l k. omega (arith, fits .0)) q)
+    ∙ paint-alike (t .lit) (λ y. gathered (dot y) v m) (λ y. upFrom (dotNumber (t .window .width) left y) m) (c .y) (b .p)
+    (λ y q. paint-back (t .lit) (λ j. dotNumber (t .window .width) (c .x - j) y) (dotNumber (t .window .width) left y) v m (λ l k. omega (arith, fits .0)) q)
     pic)))
     (λ d. rw d (ap (λ (ds : List ℕ). paint (t .lit) ds pic) (sym (gathered-none rows v m (λ l k. rw (here l k, ← e, d))))))
     (split (t .down && on))
@@ -95,17 +95,17 @@ unfolding rowOf vOf
 row-here b at = rw (← at .rest)
 
 -- what a place in the window marks is its own dot
-mark-own : (t : Tip) (on : Bool) (x y : ℕ) → x < t .width → y < t .height
-    → mark t on x y ≡ cond (t .down && on) (dotNumber (t .width) x y ∷ []) []
+mark-own : (t : Tip) (on : Bool) (x y : ℕ) → x < t .window .width → y < t .window .height
+    → mark t on x y ≡ cond (t .down && on) (dotNumber (t .window .width) x y ∷ []) []
 unfolding mark
-mark-own t on x y hx hy = ap (λ (ds : List ℕ). cond (t .down && on) ds []) (place-own (t .cyclic) (t .width) (t .height) x y hx hy)
+mark-own t on x y hx hy = ap (λ (ds : List ℕ). cond (t .down && on) ds []) (place-own (t .window) x y hx hy)
 
 -- the dot of row v in the k-th column of dots
 cell-dot : (turned : Bool) (t : Tip) {b : Body} (glyph : List ℕ) {c : Cell} {x₀ y₀ i k v : ℕ} → Counts b c → AtFoot t turned b c
     → OnPlace turned b x₀ y₀ c → Splits i (b .rows) (uOf b (c .i) + k) v → k < b .p → v < b .rows
     → bodyDot t turned b glyph x₀ y₀ i
     ≡ cond (t .down && inked glyph (c .column) (v / b .q))
-    (dotNumber (t .width) (cond turned (c .x - v) (c .x + k)) (cond turned (c .y + k) (c .y + v)) ∷ [])
+    (dotNumber (t .window .width) (cond turned (c .x - v) (c .x + k)) (cond turned (c .y + k) (c .y + v)) ∷ [])
     []
 unfolding bodyDot
 cell-dot false t {b} glyph {c} {x₀} {y₀} {i} {k} {v} g w place at hk hv =
@@ -137,7 +137,7 @@ row-cycles false t {b} glyph {c} {x₀} {y₀} g w place v hv =
     let u = uOf b (c .i) in
     let dot : ℕ → List ℕ = λ n. bodyDot t false b glyph x₀ y₀ (n * b .rows + v) in
     ⊎-elim
-    (λ d. rw d (gathered-along dot (λ e. e ∷ []) u (dotNumber (t .width) (c .x) (c .y + v)) (b .p)
+    (λ d. rw d (gathered-along dot (λ e. e ∷ []) u (dotNumber (t .window .width) (c .x) (c .y + v)) (b .p)
     (λ k hk. cell-dot false t glyph g w place (splits (u + k) hv refl) hk hv ∙ rw (d, add-assoc))))
     (λ d. rw d (gathered-none dot u (b .p) (λ k hk. cell-dot false t glyph g w place (splits (u + k) hv refl) hk hv ∙ rw d)))
     (split (t .down && inked glyph (c .column) (v / b .q)))
@@ -145,7 +145,7 @@ row-cycles true t {b} glyph {c} {x₀} {y₀} g w place v hv =
     let u = uOf b (c .i) in
     let dot : ℕ → List ℕ = λ n. bodyDot t true b glyph x₀ y₀ (n * b .rows + v) in
     ⊎-elim
-    (λ d. rw d (gathered-along dot (λ y. dotNumber (t .width) (c .x - v) y ∷ []) u (c .y) (b .p)
+    (λ d. rw d (gathered-along dot (λ y. dotNumber (t .window .width) (c .x - v) y ∷ []) u (c .y) (b .p)
     (λ k hk. cell-dot true t glyph g w place (splits (u + k) hv refl) hk hv ∙ rw d)))
     (λ d. rw d (gathered-none dot u (b .p) (λ k hk. cell-dot true t glyph g w place (splits (u + k) hv refl) hk hv ∙ rw d)))
     (split (t .down && inked glyph (c .column) (v / b .q)))

@@ -8,14 +8,15 @@ use native.Mathlib.Nat.{mul-le-mul}
 use native.Mathlib.Omega.{arith}
 use lib.ListN.{length}
 use Rattle.picture.specs.Dot.{paint, gathered}
-use Rattle.picture.proofs.Dots.{paint-length, paint-further}
+use Rattle.picture.proofs.Laws.{paint-length, paint-further}
 use Rattle.motion.specs.declared.character.Body.{Body}
 use Rattle.motion.specs.declared.character.Cell.{Cell}
-use Rattle.motion.specs.Character.{Sized, Counts, OnPlace}
+use Rattle.motion.specs.Working.Cells.{Sized, Counts, OnPlace}
 use Rattle.motion.specs.Glyph.{inked}
 use Rattle.drawing.specs.declared.tip.Tip.{Tip}
-use Rattle.drawing.specs.Run.{mark, bodyDot}
-use Rattle.drawing.specs.Column.{Whole, Further}
+use Rattle.drawing.specs.Run.{mark}
+use Rattle.drawing.specs.Working.Cycle.{bodyDot}
+use Rattle.drawing.specs.Working.Column.{Whole, Further}
 use Rattle.drawing.proofs.Runs.{body-here}
 
 module _ {t : Tip} {turned : Bool} {b : Body} {glyph : List ℕ} {end : ℕ} where

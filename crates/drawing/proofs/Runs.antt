@@ -7,19 +7,21 @@ use Prim.Native.Nat.{ℕ, _+_, _≤_, min}
 use native.Mathlib.Nat.{min-eq-left}
 use native.Mathlib.Omega.{arith}
 use lib.ListN.{length}
+use Rattle.picture.specs.declared.screen.Window.{Window}
 use Rattle.picture.specs.Dot.{paint, gathered}
 use Rattle.picture.specs.Screen.{Screen}
-use Rattle.picture.proofs.Dots.{paint-length, paint-more, paint-further}
+use Rattle.picture.proofs.Laws.{paint-length, paint-more, paint-further}
 use Rattle.motion.specs.declared.vector.Line.{Line}
 use Rattle.motion.specs.declared.vector.Stroke.{Stroke}
 use Rattle.motion.specs.declared.character.Body.{Body}
 use Rattle.motion.specs.declared.character.Cell.{Cell}
 use Rattle.motion.specs.LineType.{lineOn}
-use Rattle.motion.specs.Vector.{OnDot}
-use Rattle.motion.specs.Character.{Counts, OnPlace}
+use Rattle.motion.specs.Working.Strokes.{OnDot}
+use Rattle.motion.specs.Working.Cells.{Counts, OnPlace}
 use Rattle.motion.specs.Glyph.{inked}
 use Rattle.drawing.specs.declared.tip.Tip.{Tip}
-use Rattle.drawing.specs.Run.{mark, vectorDot, bodyDot}
+use Rattle.drawing.specs.Run.{mark}
+use Rattle.drawing.specs.Working.Cycle.{vectorDot, bodyDot}
 
 -- k cycles from cycle `from` on have left picture q of picture p, and cycle i is next
 pub record Done (lit : Bool) (dot : ℕ → List ℕ) (from : ℕ) (p : List ℕ) (k i : ℕ) (q : List ℕ) : Type 0 where
@@ -47,7 +49,7 @@ module _ {lit : Bool} {dot : ℕ → List ℕ} {from : ℕ} {p : List ℕ} where
     size = ap length (d .picture) ∙ paint-length lit (gathered dot from k) p
 
     -- so it is a picture of the same window
-    pub still : {w h : ℕ} → Screen w h (length p) → Screen w h (length q)
+    pub still : {w : Window} → Screen w (length p) → Screen w (length q)
     still s = rw size s
 
 module _ (t : Tip) {x₀ y₀ : ℕ} {on : Bool} where

@@ -1,2 +1,3 @@
-pub mod Column
+pub mod Figure
 pub mod Run
+pub mod Working

@@ -5,14 +5,15 @@ ghost use Prim.Native.Nat.{ℕ, _+_, _*_, _≤_, _<_};
 ghost use lib.ListN.{length};
 ghost use Rattle.picture.specs.Dot.{paint, gathered};
 ghost use Rattle.picture.specs.Screen.{Screen};
-ghost use Rattle.motion.specs.Character.{Sized, Counts, OnPlace};
-ghost use Rattle.drawing.specs.Run.{bodyDot};
-ghost use Rattle.drawing.specs.Column.{Inside, Fits, bandDots, AtFoot, Whole};
+ghost use Rattle.motion.specs.Working.Cells.{Sized, Counts, OnPlace};
+ghost use Rattle.drawing.specs.Working.Cycle.{bodyDot};
+ghost use Rattle.drawing.specs.Working.Column.{Inside, Fits, bandDots, AtFoot, Whole};
 use crate::tip::Tip;
 use crate::tip::touch_box;
 use motion::character::Body;
 use motion::character::Cell;
 use motion::glyph::has_ink;
+use motion::number::least;
 
 // Whether n by m places lie inside the window, and short of where X and Y step around.
 fn inside(t: Tip, x: u16, y: u16, n: u16, m: u16) -> bool
@@ -21,10 +22,10 @@ fn inside(t: Tip, x: u16, y: u16, n: u16, m: u16) -> bool
 {
     let right = x as usize + n as usize;
     let top = y as usize + m as usize;
-    if right > t.width {
+    if right > t.window.width {
         return false;
     }
-    if top > t.height {
+    if top > t.window.height {
         return false;
     }
     if right > 4096 {
@@ -67,16 +68,9 @@ pub fn is_whole(t: Tip, turned: bool, b: Body, c: Cell, left: u16) -> bool
     fits(t, turned, b, c)
 }
 
-// The rows of dots that one row of the glyph still has.
-fn least(a: u16, b: u16) -> u16
-    ensures { λ r. ⌜ (r ≤ a) × (r ≤ b) × (r < b → r ≡ a) × (0 < a → 0 < b → 0 < r) ⌝ }
-{
-    if a < b { a } else { b }
-}
-
 // The m rows of dots from row v of a column on, which are on alike: over each other; turned, beside each other.
 fn draw_band(pic: &mut [u8], t: Tip, turned: bool, b: Body, c: Cell, on: bool, v: u16, m: u16)
-    requires { ⌜ Screen (t .width) (t .height) (length (now pic)) ⌝ }
+    requires { ⌜ Screen (t .window) (length (now pic)) ⌝ }
     requires { ⌜ Fits turned t b c × (v + m ≤ b .rows) × (b .rows ≤ 128) ⌝ }
     ensures { λ _. ⌜ now (pic .exit) ≡ paint (t .lit) (bandDots turned t b c on v m) (now (pic .entry)) ⌝ }
 {
@@ -89,7 +83,7 @@ fn draw_band(pic: &mut [u8], t: Tip, turned: bool, b: Body, c: Cell, on: bool, v
 
 // The cycles of a whole column of the glyph.
 pub fn draw_column<'a>(pic: &mut [u8], t: Tip, turned: bool, b: Body, glyph: &'a [u8], c: Cell)
-    requires { ⌜ Screen (t .width) (t .height) (length (now pic)) ⌝ }
+    requires { ⌜ Screen (t .window) (length (now pic)) ⌝ }
     requires { ⌜ Sized b × Counts b c × (length (now glyph) ≡ 5) × AtFoot t turned b c ⌝ }
     ensures { λ _. ⌜ ((x y : ℕ) → OnPlace turned b x y c → now (pic .exit) ≡ paint (t .lit) (gathered (bodyDot t turned b (now (glyph .entry)) x y) (c .i) (b .p * b .rows)) (now (pic .entry))) ⌝ }
 {

@@ -4,54 +4,47 @@ ghost use Prim.Native.Nat.{_+_, _≤_};
 ghost use lib.ListN.{length};
 ghost use Rattle.picture.specs.Dot.{paint};
 ghost use Rattle.picture.specs.Screen.{Screen};
-ghost use Rattle.drawing.specs.Run.{mark, markBox};
+ghost use Rattle.drawing.specs.Run.{mark};
+ghost use Rattle.drawing.specs.Working.Cycle.{markBox};
+use motion::position::Spot;
 use picture::run::paint_box;
+use picture::screen::Window;
 use picture::screen::put_dot;
 
-// The window and whether the screen is cyclic; whether the tip is down, and whether it lights (the pen) or darkens.
+// The window; whether the tip is down, and whether it lights (the pen) or darkens (the eraser).
 pub struct Tip {
-    pub width: usize,
-    pub height: usize,
-    pub cyclic: bool,
+    pub window: Window,
     pub down: bool,
     pub lit: bool,
 }
 
 // A run of cycles: X and Y on the place of cycle `from`, and how many cycles.
 pub struct Run {
-    pub x: u16,
-    pub y: u16,
+    pub at: Spot,
     pub from: u16,
     pub count: u16,
 }
 
-// A place.
-pub struct Spot {
-    pub x: u16,
-    pub y: u16,
-}
-
 // One cycle: its dot, where it is on and the tip is down.
 pub fn touch(pic: &mut [u8], t: Tip, on: bool, x: u16, y: u16)
-    requires { ⌜ Screen (t .width) (t .height) (length (now pic)) ⌝ }
+    requires { ⌜ Screen (t .window) (length (now pic)) ⌝ }
     ensures { λ _. ⌜ now (pic .exit) ≡ paint (t .lit) (mark t on x y) (now (pic .entry)) ⌝ }
 {
     if t.down & on {
-        put_dot(pic, t.width, t.height, t.cyclic, x, y, t.lit);
+        put_dot(pic, t.window, x, y, t.lit);
     }
 }
 
 // Cycles that are on alike: their n by m dots inside the window, the lower left one at (x, y).
 pub fn touch_box(pic: &mut [u8], t: Tip, on: bool, x: u16, y: u16, n: u16, m: u16)
-    requires { ⌜ Screen (t .width) (t .height) (length (now pic)) ⌝ }
-    requires { ⌜ (x + n ≤ t .width) × (y + m ≤ t .height) ⌝ }
+    requires { ⌜ Screen (t .window) (length (now pic)) ⌝ }
+    requires { ⌜ (x + n ≤ t .window .width) × (y + m ≤ t .window .height) ⌝ }
     ensures { λ _. ⌜ now (pic .exit) ≡ paint (t .lit) (markBox t on x y n m) (now (pic .entry)) ⌝ }
 {
     if t.down & on {
         paint_box(
             pic,
-            t.width,
-            t.height,
+            t.window,
             x as usize,
             y as usize,
             n as usize,

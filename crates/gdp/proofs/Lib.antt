@@ -1,11 +1,10 @@
-pub mod Readings
-pub mod Figures
-pub mod Split
-pub mod Memory
-pub mod Settled
-pub mod GoodParts
-pub mod Good
-pub mod Grants
-pub mod Writes
-pub mod Runs
-pub mod Steps
+pub mod Laws
+mod Packing
+mod Bytes
+mod Counts
+mod Flaws
+mod Told
+mod Frames
+mod Across
+mod Steps
+mod Settled

@@ -1,128 +1,259 @@
--- A grant as the code goes about it: what a running command can be granted, and that the run's place and picture are the
--- definition's state and picture.
+-- A grant as the code goes about it is the definition's grant.
 -- Assumes nothing.
-use mathlib.Core.Path.{_≡_, sym, ap, _∙_, subst}
-use mathlib.Core.Bool.{false, not}
-use mathlib.Core.List.{List}
-use Prim.Native.Nat.{ℕ, _+_, _-_, _≤_, _<_, min}
+use mathlib.Core.Path.{_≡_, refl, sym, ap, _∙_}
+use mathlib.Core.Bool.{Bool, true, false, cond, not, _&&_, _||_, and-false, or-true, or-false}
+use mathlib.Core.List.{List, []}
+use Prim.Native.Nat.{ℕ, zero, suc, _+_, _-_, _≤_, _<_, min}
 use native.Mathlib.Omega.{arith}
-use native.Mathlib.Nat.{min-zero}
-use lib.Dec.{eqb}
+use lib.Dec.{eqb, ltb, leb}
 use lib.ListN.{length}
-use borrow.Author.Tests.{lt-ltb, le-ltb, eqb-true, eqb-false, not-false}
-use Rattle.picture.specs.Dot.{paint}
-use Rattle.parts.specs.declared.sequence.Work.{Work}
-use Rattle.parts.specs.declared.sequence.Work.the-variants.{Steps}
+use borrow.Author.Tests.{eqb-true, eqb-false, eq-eqb, ltb-true, ltb-false, lt-ltb, le-ltb, leb-true, leb-false, le-leb, lt-leb}
+use Rattle.basis.proofs.Cases.{cond-case, or-parts, and-parts}
+use Rattle.picture.specs.Bit.{bitAt}
+use Rattle.picture.specs.Screen.{Screen}
+use Rattle.motion.specs.declared.position.Spot.{Spot}
+use Rattle.motion.specs.Position.{ahead, behind, spot, moved, movedBack}
 use Rattle.motion.specs.declared.vector.Line.{Line}
-use Rattle.motion.specs.Vector.{vectorCycles, Lengths}
-use Rattle.parts.specs.declared.command.Kind.the-variants.{Vector}
-use Rattle.parts.specs.Command.{kind}
+use Rattle.motion.specs.Vector.{lineOf}
+use Rattle.parts.specs.declared.command.Kind.{Kind}
+use Rattle.parts.specs.declared.command.Kind.the-variants.{NoCycle, OneCycle, Vector}
 use Rattle.parts.specs.Format.{bytes}
-use Rattle.drawing.specs.declared.tip.Spot.{Spot}
-use Rattle.gdp.specs.declared.state.Regs.{Regs}
+use Rattle.parts.specs.Command.{kind, lettering}
+use Rattle.parts.specs.Refusal.{lowest}
+use Rattle.parts.proofs.Laws.{letter-codes, screen}
+use Rattle.drawing.specs.declared.tip.Tip.{Tip}
+use Rattle.drawing.specs.Figure.{Figure, Stroke, Pause, cyclesOf, way, endWay, writes}
+use Rattle.drawing.specs.Run.{startOf, placeOf, restOf, mark, dotOf, dotsFrom, Ran}
+use Rattle.drawing.specs.Working.Cycle.{Granted}
+use Rattle.rules.specs.Sequence.{Work, Idle, Steps, Clear}
+use Rattle.rules.specs.State.{State, withPlace, withRegs, withWork, readyRaises}
+use Rattle.rules.specs.Figure.{Tables, tables, figureBy, figure, cycles, glyph, tilted}
+use Rattle.rules.specs.Cycles.{cyclic, tip, here, start, leftOf, left, used, dotsOf, dots, rested, afterOf, after}
+use Rattle.rules.specs.Refusals.{badRegs, wrongPicture, wrongTable}
 use Rattle.gdp.specs.declared.state.Gdp.{Gdp}
-use Rattle.gdp.specs.Figure.{line, cyclesOf, cycles}
-use Rattle.gdp.specs.Cycles.{lights, left, used, dots, dotsFrom, standing, ended, after}
-use Rattle.gdp.specs.Refusals.{bad, wrongPicture, wrongTable, grantNumber}
 use Rattle.gdp.specs.declared.state.Answer.{Answer}
-use Rattle.gdp.specs.Calls.{Leaves}
-use Rattle.gdp.specs.Good.{GoodWork}
-use Rattle.gdp.specs.Runs.{restX, restY, endsAt, standsAt, restsAt, taken, Fits, Ran}
-use Rattle.gdp.proofs.GoodParts.{cond-case, good-from, lowest-zero}
-use Rattle.gdp.proofs.Split.{Still, after-steps, dots-steps, left-steps}
+use Rattle.gdp.specs.Flat.{workIn, flat, named, formatOf, regsOf, stateOf}
+use Rattle.gdp.specs.Calls.{refusal, Grants}
+use Rattle.gdp.specs.Working.Check.{stray, badStep}
+use Rattle.gdp.specs.Working.Steps.{runOf, memoryNumber, HasTable, flatAnswer, restsAt}
+use Rattle.gdp.proofs.Flaws.{steps-run, others-run, steps-flawed, others-sound}
+use Rattle.gdp.proofs.Told.{grantCode, grant-refused, grant-accepted, grant-memories}
 
-module _ (s : Gdp) (c p n : ℕ) (runs : s .work ≡ Steps c p) where
-  -- a command that runs in a good state has a cycle left
-  pub some-left : bad s ≡ false → p < cycles (s .regs) c
-  some-left good = subst (λ (w : Work). GoodWork (s .regs) (s .vb) w) runs (good-from s good .work) .left
+-- cycles past the last leave X and Y where the last does
+rest-past : (f : Figure) (at : Spot) (i j : ℕ) → cyclesOf f ≤ i → cyclesOf f ≤ j → restOf f at i ≡ restOf f at j
+unfolding restOf
+rest-past f at i j h l = rw (le-ltb i (cyclesOf f) h, le-ltb j (cyclesOf f) l)
 
-  module _ (pic tab : List ℕ) where
-    -- so it can be granted the smaller of n and those left
-    pub grant-fits : bad s ≡ false → cycles (s .regs) c ≤ 12288 → length pic ≡ bytes (s .format) → length tab ≡ 480
-        → Fits (s .format) (s .regs) c p (min n (cycles (s .regs) c - p)) pic tab
-    grant-fits good small hp ht =
-        let g = good-from s good in
-        let l = some-left good in
-        record { x = omega (arith, g .regs .x); y = omega (arith, g .regs .y); some = l; most = omega arith; small = small; picture = hp; table = ht }
+-- a command of code c that draws f and has used p of its cycles, granted n: the cycles that it uses
+module _ (s : State) (c p n : ℕ) (f : Figure) (is : figure (s .regs) c ≡ f) (runs : s .work ≡ Steps c p) where
+  used-steps : used s n ≡ min n (cyclesOf f - p)
+  unfolding used left leftOf cycles
+  used-steps = ap (λ (w : Work). min n (leftOf (s .regs) w)) runs ∙ rw is
 
-    -- the run's picture and count are the definition's
-    module _ (k : ℕ) (is : k ≡ min n (cycles (s .regs) c - p)) (spot : Spot) (after-pic : List ℕ)
-        (ran : Ran (s .format) (s .regs) tab c p k spot pic after-pic) (good : bad s ≡ false) where
-      count : k ≡ used s n
-      unfolding used
-      count = is ∙ sym (ap (min n) (left-steps s c p runs))
+  -- the dots that they write
+  dots-steps : (t : Tables)
+      → dots s t n ≡ dotsFrom (tip (s .format) (s .regs)) f (glyph t c) (startOf f p (here (s .regs))) p (min n (cyclesOf f - p))
+  unfolding dots dotsOf start cycles
+  dots-steps t = ap (dotsOf (s .format) (s .regs) t n) runs ∙ rw is
 
-      painted : after-pic ≡ paint (lights (s .regs)) (dots s tab n) pic
-      painted =
-          ran .picture
-          ∙ ap (λ (ds : List ℕ). paint (lights (s .regs)) ds pic) (ap (dotsFrom (s .format) (s .regs) tab c p p) is ∙ sym (dots-steps s tab c p n runs))
+  -- and the state after them, with X and Y at a place
+  abbrev stands : Spot → State
+  stands at = withRegs (withPlace at (s .regs)) s
 
-      -- with the last cycle the command is over and ready rises
-      step-ends : k ≡ cycles (s .regs) c - p
-          → Leaves (taken s n pic tab) (endsAt s k spot) after-pic
-      unfolding taken ended restX restY
-      step-ends e =
-          let l = some-left good in
-          let over : cycles (s .regs) c ≤ p + n = omega arith in
-          let full : cycles (s .regs) c ≤ p + k = omega arith in
-          let done : after s n ≡ ended s c p = after-steps s c p n runs ∙ rw (le-ltb (p + n) (cycles (s .regs) c) over) in
-          record {
-            answers =
-                rw (← count, done, ran .x, ran .y, le-ltb (p + k) (cycles (s .regs) c) full);
-            pictures = painted;
-          }
+  after-steps : {at : Spot} → at ≡ restOf f (startOf f p (here (s .regs))) (p + n)
+      → after s n ≡ cond (ltb (p + n) (cyclesOf f)) (withWork (Steps c (p + n)) (stands at)) (readyRaises (withWork Idle (stands at)))
+  unfolding after afterOf rested start cycles
+  after-steps e = ap (afterOf s n) runs ∙ rw (is, e)
 
-      -- before it X and Y stand on the place of the next cycle
-      step-stands : (k ≡ cycles (s .regs) c - p → ⊥)
-          → Leaves (taken s n pic tab) (standsAt s c p k spot) after-pic
-      unfolding taken standing restX restY
-      step-stands ne =
-          let l = some-left good in
-          let all : k ≡ n = omega (arith, ne) in
-          let short : p + n < cycles (s .regs) c = omega (arith, ne) in
-          let on : after s n ≡ standing s c p (p + n) = after-steps s c p n runs ∙ rw (lt-ltb (p + n) (cycles (s .regs) c) short) in
-          record {
-            answers =
-                rw (← count, on, ran .x, ran .y, all, lt-ltb (p + n) (cycles (s .regs) c) short);
-            pictures = painted;
-          }
+  -- the code's answer after k cycles of m that were left is the definition's
+  step-rests : p < cyclesOf f → {k m : ℕ} → k ≡ min n (cyclesOf f - p) → m ≡ cyclesOf f - p
+      → {at : Spot} → at ≡ restOf f (startOf f p (here (s .regs))) (p + k)
+      → restsAt s c p k m at ≡ record { number = 0; value = used s n; state = after s n }
+  unfolding restsAt
+  step-rests some {k} {m} ek em {at} e =
+      let value : k ≡ used s n = ek ∙ sym used-steps in
+      let state : cond (eqb k m) (readyRaises (withWork Idle (stands at))) (withWork (Steps c (p + k)) (stands at)) ≡ after s n =
+      cond-case (λ (t : State). t ≡ after s n) (eqb k m)
+      (λ h.
+      let all : k ≡ m = eqb-true k m h in
+      let over : cyclesOf f ≤ p + n = omega arith in
+      let same = rest-past f (startOf f p (here (s .regs))) (p + k) (p + n) (omega arith) over in
+      sym (after-steps (e ∙ same) ∙ rw (le-ltb (p + n) (cyclesOf f) over)))
+      (λ h.
+      let short = eqb-false k m h in
+      let all : k ≡ n = omega (arith, short) in
+      sym (after-steps (e ∙ rw all) ∙ rw (lt-ltb (p + n) (cyclesOf f) (omega (arith, short)), all))) in
+      rw (state, value)
 
-      -- so what the code answers is the definition's
-      pub step-rests : {m : ℕ} → m ≡ cycles (s .regs) c - p → Leaves (taken s n pic tab) (restsAt s c p k m spot) after-pic
-      unfolding restsAt
-      step-rests {m} e =
-          cond-case (λ (r : Answer). Leaves (taken s n pic tab) r after-pic) (eqb k m)
-          (λ h. step-ends (eqb-true k m h ∙ e)) (λ h. step-stands (λ same. eqb-false k m h (same ∙ sym e)))
+-- where refusals 2 and 3 do not apply, picture and table are of the right lengths
+memory-fits : (b : Gdp) (p t : ℕ) → memoryNumber b p t ≡ 0 → (p ≡ bytes (formatOf b)) × (t ≡ 480)
+memory-fits b p t = from (eqb p (bytes (formatOf b))) (eqb t 480) refl refl
+  where
+    from : (x y : Bool) → eqb p (bytes (formatOf b)) ≡ x → eqb t 480 ≡ y → _≡_ {A = ℕ} (cond (not x) 2 (cond (not y) 3 0)) 0
+        → (p ≡ bytes (formatOf b)) × (t ≡ 480)
+    from true true e f h = (eqb-true _ _ e, eqb-true _ _ f)
+    from true false e f h = absurd (omega arith)
+    from false y e f h = absurd (omega arith)
+
+-- X and Y of bytes that are not stray are below 4,096
+stray-place : (b : Gdp) → stray b ≡ false → (b .x < 4096) × (b .y < 4096)
+unfolding stray badRegs
+stray-place b o =
+    let regs = or-parts (not (named b)) (badRegs (regsOf b)) (or-parts _ _ o .0) .1 in
+    let xy = or-parts (ltb 4095 (b .x)) (ltb 4095 (b .y)) (or-parts _ _ (or-parts _ _ (or-parts _ _ regs .0) .0) .0) in
+    (omega (arith, ltb-false 4095 (b .x) (xy .0)), omega (arith, ltb-false 4095 (b .y) (xy .1)))
+
+-- bytes of a command that steps: not stray, and no character while tilt is high; f is what it draws
+pub record Stepping (b : Gdp) (f : Figure) : Type 0 where
+  pub sound : stray b ≡ false
+  pub steps : workIn (b .modes) ≡ 1
+  pub upright : (lettering (kind (b .code)) && tilted (regsOf b)) ≡ false
+  pub draws : figure (regsOf b) (b .code) ≡ f
+
+-- such a command with m cycles, some of them left, that is lent memories of the right lengths
+pub record Going (b : Gdp) (f : Figure) (pic tab : List ℕ) (m : ℕ) : Type 0 where
+  pub command : Stepping b f
+  pub cycles : m ≡ cyclesOf f
+  pub some : b .done < m
+  pub picture : length pic ≡ bytes (formatOf b)
+  pub table : length tab ≡ 480
+
+-- the refusals as the code finds them, with the cycles m at hand
+abbrev stepCode : Gdp → ℕ → List ℕ → List ℕ → ℕ
+stepCode b m pic tab = cond (leb m (b .done)) 1 (memoryNumber b (length pic) (length tab))
+
+module _ {b : Gdp} {f : Figure} (h : Stepping b f) (pic tab : List ℕ) {m : ℕ} (em : m ≡ cyclesOf f) where
+  -- they are the definition's
+  step-code : (n : ℕ) → grantCode b n pic tab ≡ stepCode b m pic tab
+  unfolding badStep cycles lowest wrongPicture wrongTable stateOf
+  step-code n = rw (em, steps-flawed b (h .sound) (h .steps), h .upright, h .draws, or-false (leb (cyclesOf f) (b .done)))
+
+  -- with another number than 0 the grant is refused
+  pub step-refused : (n : ℕ) {k : ℕ} → k ≡ stepCode b m pic tab → (k ≡ 0 → ⊥)
+      → Grants b n pic tab (refusal k b) pic
+  step-refused n ek ne = grant-refused b n pic tab (step-code n ∙ sym ek) ne
+
+  -- with 0 it goes on
+  pub step-goes : {k : ℕ} → k ≡ stepCode b m pic tab → k ≡ 0 → Going b f pic tab m
+  step-goes ek ez = from (leb m (b .done)) refl (sym ek ∙ ez)
+    where
+      from : (x : Bool) → leb m (b .done) ≡ x → cond x 1 (memoryNumber b (length pic) (length tab)) ≡ 0 → Going b f pic tab m
+      from true e z = absurd (omega arith)
+      from false e z =
+          let fits = memory-fits b (length pic) (length tab) z in
+          record { command = h; cycles = em; some = leb-false m (b .done) e; picture = fits .0; table = fits .1 }
+
+module _ {b : Gdp} {f : Figure} {pic tab : List ℕ} {m : ℕ} (g : Going b f pic tab m) where
+  -- the window of the picture
+  pub on-screen : Screen (tip (formatOf b) (regsOf b) .window) (length pic)
+  unfolding tip
+  on-screen = rw (g .picture) (screen (formatOf b) (cyclic (regsOf b)))
+
+  module _ (n : ℕ) {left used : ℕ} (el : left ≡ m - b .done) (eu : used ≡ min n left) where
+    -- the run that the code makes is one that the figure has
+    pub run-granted : Granted f (runOf b used)
+    unfolding runOf
+    run-granted =
+        let at = stray-place b (g .command .sound) in
+        record { some = omega arith; most = omega arith; x = at .0; y = at .1 }
+
+    -- and after it the code's answer is the definition's
+    pub step-granted : {s : Spot} {r : Answer} {q : List ℕ}
+        → Ran (tip (formatOf b) (regsOf b)) f (glyph (tables tab) (b .code)) (runOf b used) s pic q
+        → r ≡ flatAnswer (restsAt (stateOf b) (b .code) (b .done) used left s) → Grants b n pic tab r q
+    unfolding runOf flatAnswer tip stateOf
+    step-granted {s} {r} {q} ran er =
+        let count : used ≡ min n (cyclesOf f - b .done) = omega arith in
+        let some : b .done < cyclesOf f = omega arith in
+        let all : left ≡ cyclesOf f - b .done = omega arith in
+        let draws = g .command .draws in
+        let runs = steps-run b (g .command .steps) in
+        let rests = step-rests (stateOf b) (b .code) (b .done) n f draws runs some count all (ran .rests) in
+        let written = dots-steps (stateOf b) (b .code) (b .done) n f draws runs (tables tab) in
+        let fits : stepCode b m pic tab ≡ 0 = rw (lt-leb m (b .done) (g .some), eq-eqb _ _ (g .picture), eq-eqb _ _ (g .table)) in
+        grant-accepted b n pic tab (step-code (g .command) pic tab (g .cycles) n ∙ fits)
+        (er ∙ ap flatAnswer rests) (ran .picture ∙ rw (count, written))
+
+-- 0F writes no dot
+no-dots : (t : Tip) (g : List ℕ) (at : Spot) (i k : ℕ) → dotsFrom t Pause g at i k ≡ []
+unfolding dotsFrom dotOf mark writes
+no-dots t g at i zero = refl
+no-dots t g at i (suc k) = rw (and-false (t .down)) (no-dots t g at (suc i) k)
+
+-- and stays where it is
+pub pause-ran : (b : Gdp) (t : Tip) (g : List ℕ) (k : ℕ) (pic : List ℕ) → stray b ≡ false
+    → Ran t Pause g (runOf b k) (spot (b .x) (b .y)) pic pic
+unfolding runOf restOf startOf placeOf way endWay moved movedBack
+pause-ran b t g k pic o =
+    let in-range = stray-place b o in
+    let stays : (v : ℕ) → v < 4096 → v ≡ ahead (behind v 0) 0 = λ v l. omega arith in
+    let x = stays (b .x) (in-range .0) in
+    let y = stays (b .y) (in-range .1) in
+    let place : spot (b .x) (b .y) ≡ spot (ahead (behind (b .x) 0) 0) (ahead (behind (b .y) 0) 0) = λ j. spot (x j) (y j) in
+    record {
+      rests = cond-case (λ (s : Spot). spot (b .x) (b .y) ≡ s) (ltb (b .done + k) (cyclesOf Pause)) (λ _. place) (λ _. place);
+      picture = rw no-dots;
+    }
+
+-- a stepping command of bytes that are not stray: one that is no character draws the figure of its kind
+module _ (b : Gdp) (sound : stray b ≡ false) (steps : workIn (b .modes) ≡ 1) where
+  by-kind : {K : Kind} → kind (b .code) ≡ K → lettering K ≡ false → Stepping b (figureBy (regsOf b) (b .code) K)
+  unfolding figure
+  by-kind e l = record { sound = sound; steps = steps; upright = rw (e, l); draws = ap (figureBy (regsOf b) (b .code)) e }
+
+  -- a vector, its line at hand
+  pub vector-steps : kind (b .code) ≡ Vector → {l : Line} → l ≡ lineOf (b .code) (b .deltax) (b .deltay)
+      → Stepping b (Stroke (b .ctrl2) l)
+  unfolding figureBy
+  vector-steps e el = rw el (by-kind e refl)
+
+  -- 0F, one cycle without a dot
+  pub pause-steps : kind (b .code) ≡ OneCycle → Stepping b Pause
+  unfolding figureBy
+  pause-steps e = by-kind e refl
+
+  -- a character or block while tilt is low
+  pub letter-steps : tilted (regsOf b) ≡ false → {f : Figure} → figure (regsOf b) (b .code) ≡ f → Stepping b f
+  letter-steps t e = record { sound = sound; steps = steps; upright = rw t (and-false (lettering (kind (b .code)))); draws = e }
+
+  -- a command without write cycles has none left
+  pub nothing-refused : (n : ℕ) (pic tab : List ℕ) → kind (b .code) ≡ NoCycle
+      → Grants b n pic tab (refusal 1 b) pic
+  unfolding figureBy cyclesOf
+  nothing-refused n pic tab e =
+      step-refused (by-kind e refl) pic tab {m = 0} refl n (rw (le-leb 0 (b .done) (omega arith))) (λ z. omega arith)
+
+  -- a character or block does not run while tilt is high
+  pub tilted-refused : (n : ℕ) (pic tab : List ℕ) → lettering (kind (b .code)) ≡ true → tilted (regsOf b) ≡ true
+      → Grants b n pic tab (refusal 1 b) pic
+  unfolding badStep lowest
+  tilted-refused n pic tab l t =
+      grant-refused b n pic tab
+      (rw (steps-flawed b sound steps, l, t, or-true (leb (cycles (regsOf b) (b .code)) (b .done)))) (λ z. omega arith)
+
+-- every character but 0A and 0B has its glyph in a table of 480 bytes
+pub has-table : (c : ℕ) (tab : List ℕ) → c < 256 → lettering (kind c) ≡ true → length tab ≡ 480 → HasTable c tab
+has-table c tab h l t =
+    let test : ((leb 0x20 c && ltb c 0x80) || eqb c 0x0A || eqb c 0x0B) ≡ true = letter-codes c h ∙ l in
+    let range : (eqb c 0x0A || eqb c 0x0B) ≡ false → (leb 0x20 c ≡ true) × (ltb c 0x80 ≡ true) =
+    λ no. let each = or-parts (eqb c 0x0A) (eqb c 0x0B) no in
+    and-parts _ _ (sym (rw (each .0, each .1, or-false, or-false)) ∙ test) in
+    record { low = λ no. leb-true 0x20 c (range no .0); high = λ no. omega (arith, t, ltb-true c 0x80 (range no .1)) }
 
 -- an idle or clearing processor uses no cycle
-pub still-taken : (s : Gdp) (n : ℕ) (pic tab : List ℕ) → Still s → Leaves (taken s n pic tab) (record { number = 0; value = 0; state = s }) pic
-unfolding taken used
-still-taken s n pic tab h = record { answers = rw (h .none, min-zero n, h .stays n); pictures = rw (h .blank tab n) }
+others-still : (s : State) (n : ℕ) (t : Tables) (x : Bool) (g o : Bool) → s .work ≡ cond x Idle (Clear g o)
+    → (used s n ≡ 0) × (after s n ≡ s) × (dots s t n ≡ [])
+unfolding used left leftOf after afterOf dots dotsOf
+others-still s n t true g o e =
+    (ap (λ (w : Work). min n (leftOf (s .regs) w)) e ∙ omega arith, ap (afterOf s n) e, ap (dotsOf (s .format) (s .regs) t n) e)
+others-still s n t false g o e =
+    (ap (λ (w : Work). min n (leftOf (s .regs) w)) e ∙ omega arith, ap (afterOf s n) e, ap (dotsOf (s .format) (s .regs) t n) e)
 
--- where a grant is accepted the state is good and the memories are of the right lengths
-pub grant-accepted : (s : Gdp) (pic tab : List ℕ) → grantNumber s pic tab ≡ 0
-    → (bad s ≡ false) × (length pic ≡ bytes (s .format)) × (length tab ≡ 480)
-unfolding grantNumber wrongPicture wrongTable
-grant-accepted s pic tab z =
-    let f = lowest-zero (bad s) (not (eqb (length pic) (bytes (s .format)))) (not (eqb (length tab) 480)) false false false false false z in
-    (f .0, eqb-true _ _ (not-false _ (f .1)), eqb-true _ _ (not-false _ (f .2)))
-
--- a vector has one cycle more than its line is long
-abbrev pub long : Line → ℕ
-long l = l .long
-
-pub line-cycles : (r : Regs) (c : ℕ) → kind c ≡ Vector → cycles r c ≡ line r c .long + 1
-unfolding cycles cyclesOf vectorCycles
-line-cycles r c e = rw e
-
--- with the line l of a running vector at hand
-module _ (s : Gdp) (c p : ℕ) where
-  pub line-left : {l : Line} → kind c ≡ Vector → l ≡ line (s .regs) c → l .long + 1 - p ≡ cycles (s .regs) c - p
-  line-left e el = ap (λ (n : ℕ). n - p) (ap (λ (n : ℕ). n + 1) (ap long el) ∙ sym (line-cycles (s .regs) c e))
-
-  pub line-granted : (n : ℕ) → s .work ≡ Steps c p → (pic tab : List ℕ) → bad s ≡ false → kind c ≡ Vector
-      → {l : Line} → l ≡ line (s .regs) c → Lengths l → length pic ≡ bytes (s .format) → length tab ≡ 480
-      → {k : ℕ} → k ≡ min n (l .long + 1 - p) → Fits (s .format) (s .regs) c p k pic tab
-  line-granted n runs pic tab good e {l} el short hp ht is =
-      rw (is, line-left e el)
-      (grant-fits s c p n runs pic tab good (omega (arith, line-cycles (s .regs) c e, ap long el, short .small)) hp ht)
+-- so its grant leaves everything as it is
+pub others-granted : (b : Gdp) (n : ℕ) (pic tab : List ℕ) → stray b ≡ false → (workIn (b .modes) ≡ 1 → ⊥)
+    → memoryNumber b (length pic) (length tab) ≡ 0 → Grants b n pic tab (record { number = 0; value = 0; state = flat (stateOf b) }) pic
+others-granted b n pic tab sound other z =
+    let still =
+    others-still (stateOf b) n (tables tab) (eqb (workIn (b .modes)) 0) (bitAt 5 (b .modes)) (bitAt 6 (b .modes)) (others-run b other) in
+    grant-accepted b n pic tab (grant-memories b n pic tab (others-sound b sound other) ∙ z)
+    (rw (still .0, still .1)) (rw (still .2))

@@ -1,72 +1,74 @@
--- The calls: refusal number, value, state and picture for every input.
+-- The calls over sixteen bytes are those of crate rules over the state that the bytes stand for.
 -- Assumes nothing.
 use mathlib.Core.Path.{_≡_}
 use Prim.Native.Nat.{ℕ}
-use mathlib.Core.Bool.{Bool, cond}
 use mathlib.Core.List.{List}
-use lib.Dec.{eqb}
-use Rattle.picture.specs.Dot.{paint}
-use Rattle.parts.specs.declared.address.Address.{Address}
-use Rattle.parts.specs.Address.{addressOf}
+use mathlib.Core.Bool.{Bool, cond, not, _||_}
+use lib.Dec.{eqb, ltb}
+use Rattle.rules.specs.State.{fresh}
+use Rattle.rules.specs.Figure.{tables}
+use Rattle.rules.specs.Refusals.{bad}
+use Rattle.rules.specs.Calls.{Answer as Verdict, Memory, memory, Outcome, Located, granted, blanked}
 use Rattle.gdp.specs.declared.state.Gdp.{Gdp}
 use Rattle.gdp.specs.declared.state.Answer.{Answer}
-use Rattle.gdp.specs.declared.state.Located.{Located}
-use Rattle.gdp.specs.Registers.{registerAt, afterRead}
-use Rattle.gdp.specs.Cycles.{lights, used, dots, after}
-use Rattle.gdp.specs.Commands.{afterWrite}
-use Rattle.gdp.specs.Blanking.{afterVb, pictureVb, afterEdge}
-use Rattle.gdp.specs.Refusals.{writeNumber, readNumber, grantNumber, vbNumber, edgeNumber, addressNumber}
+use Rattle.gdp.specs.declared.address.Outputs.{Outputs}
+use Rattle.gdp.specs.Flat.{formatAt, flat, named, stateOf}
 
--- a refusal gives value 0 and the state as handed in
-unfoldable pub answer : ℕ → ℕ → Gdp → Gdp → Answer
-answer number value next s =
-    record { number = number; value = cond (eqb number 0) value 0; state = cond (eqb number 0) next s }
+-- 1: a number names no format, no kind of work or no pen sequence, or the state is one that the processor cannot be in
+unfoldable pub flawed : Gdp → Bool
+flawed b = not (named b) || bad (stateOf b)
 
--- what a call that is lent a picture leaves: its answer and the picture, changed together
-pub record Outcome : Type 0 where
-  pub answer : Answer
-  pub picture : List ℕ
+-- a refusal: value 0, and the bytes as handed in
+abbrev pub refusal : ℕ → Gdp → Answer
+refusal number b = record { number = number; value = 0; state = b }
 
--- and the picture as handed in
-unfoldable pub outcome : ℕ → ℕ → Gdp → List ℕ → Gdp → List ℕ → Outcome
-outcome number value next changed s picture =
-    record { answer = answer number value next s; picture = cond (eqb number 0) changed picture }
+-- the definition's answer r to a call with bytes b: accepted, the bytes of its state, with what is not in use 0; refused, b.
+-- Bytes that name nothing are refused with 1
+unfoldable pub answerOf : Gdp → Verdict → Answer
+answerOf b r =
+    cond (named b) (record { number = r .number; value = r .value; state = cond (eqb (r .number) 0) (flat (r .state)) b })
+    (refusal 1 b)
 
--- write value v to the register at address a
-unfoldable pub written : Gdp → ℕ → ℕ → Answer
-written s a v = answer (writeNumber s a v) 0 (afterWrite s a v) s
+-- the form of a statement about a call that is lent memories: r is its answer, and it leaves after of before
+pub record Leaves (b : Gdp) (o : Outcome) (before : Memory) (r : Answer) (after : Memory) : Type 0 where
+  pub answers : r ≡ answerOf b (o .answer)
+  pub memories : after ≡ cond (named b) (o .memory) before
 
--- read the register at address a
-unfoldable pub readOut : Gdp → ℕ → Answer
-readOut s a = answer (readNumber s a) (registerAt s a) (afterRead s a) s
+-- a grant of n cycles, lent a picture and a table, answers r and leaves picture p
+abbrev pub Grants : Gdp → ℕ → List ℕ → List ℕ → Answer → List ℕ → Type 0
+Grants b n picture table r p = Leaves b (granted (stateOf b) n (memory picture) (tables table)) (memory picture) r (memory p)
 
--- grant n write cycles: the used number is the value
-unfoldable pub granted : Gdp → ℕ → List ℕ → List ℕ → Outcome
-granted s n picture table =
-    outcome (grantNumber s picture table) (used s n) (after s n)
-    (paint (lights (s .regs)) (dots s table n) picture)
-    s picture
+-- a VB call, lent a picture, likewise
+abbrev pub Blanks : Gdp → Bool → List ℕ → Answer → List ℕ → Type 0
+Blanks b level picture r p = Leaves b (blanked (stateOf b) level (memory picture)) (memory picture) r (memory p)
 
--- set the VB level
-unfoldable pub blanked : Gdp → Bool → List ℕ → Outcome
-blanked s level picture = outcome (vbNumber s picture) 0 (afterVb s level) (pictureVb s level picture) s picture
+-- the address outputs
+unfoldable pub outputsOf : Gdp → Located → Outputs
+outputsOf b l =
+    cond (named b) (record { number = l .number; low = l .address .low; high = l .address .high; msl = l .address .msl })
+    (record { number = 1; low = 0; high = 0; msl = 0 })
 
--- report an LPCK edge at segment h and line v
-unfoldable pub struck : Gdp → ℕ → ℕ → Answer
-struck s h v = answer (edgeNumber s h v) 0 (afterEdge s h v) s
-
--- the address outputs for the present X and Y; refused, all three are 0
-unfoldable pub noOutputs : Address
-noOutputs = record { low = 0; high = 0; msl = 0 }
-
-unfoldable pub located : Gdp → Located
-located s =
+-- every byte 255: what stands for no state
+unfoldable pub allOnes : Gdp
+allOnes =
     record {
-      number = addressNumber s;
-      address = cond (eqb (addressNumber s) 0) (addressOf (s .format) (s .regs .x) (s .regs .y)) noOutputs;
+      x = 65535;
+      y = 65535;
+      done = 65535;
+      ctrl1 = 255;
+      ctrl2 = 255;
+      csize = 255;
+      deltax = 255;
+      deltay = 255;
+      xlp = 255;
+      ylp = 255;
+      code = 255;
+      modes = 255;
+      signals = 255;
     }
 
--- the form of a statement about a call that is lent a picture: r is its answer and p the picture that it leaves
-pub record Leaves (o : Outcome) (r : Answer) (p : List ℕ) : Type 0 where
-  pub answers : r ≡ o .answer
-  pub pictures : p ≡ o .picture
+-- the fresh state of format n; a number of none is refused with 1
+unfoldable pub freshAnswer : ℕ → Answer
+freshAnswer n =
+    cond (ltb n 3) (record { number = 0; value = 0; state = flat (fresh (formatAt n)) })
+    (refusal 1 allOnes)

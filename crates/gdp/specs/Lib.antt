@@ -1,16 +1,4 @@
-pub mod State
-pub mod Status
-pub mod Registers
-pub mod Figure
-pub mod Cycles
-pub mod Commands
-pub mod Blanking
-pub mod Refusals
+-- Flat is to be held against include/gdp.h, Calls against demand 1. What stands in Working needs no belief.
+pub mod Flat
 pub mod Calls
-pub mod Good
-pub mod Runs
-pub mod Play
-pub mod Readings
-pub mod MoreReadings
-pub mod FineReadings
-pub mod Computed
+pub mod Working

@@ -1,49 +1,41 @@
 // The address outputs for the present X and Y.
 ghost use mathlib.Core.Path.{_≡_};
-ghost use Rattle.gdp.specs.Refusals.{addressNumber};
-ghost use Rattle.gdp.specs.Calls.{located};
+ghost use Rattle.rules.specs.Calls.{located};
+ghost use Rattle.gdp.specs.Flat.{stateOf};
+ghost use Rattle.gdp.specs.Calls.{outputsOf};
+use crate::bits::format_of;
 use crate::state::Gdp;
-use crate::state::Located;
-use parts::address::Address;
 use parts::address::outputs;
-use parts::refusal::lowest_of;
+
+// The refusal number or 0, DAD while CK is low, DAD while CK is high, and MSL.
+#[repr(C)]
+pub struct Outputs {
+    pub number: u8,
+    pub low: u8,
+    pub high: u8,
+    pub msl: u8,
+}
 
 impl Gdp {
-    fn address_number(self) -> u8
-        ensures { λ r. ⌜ r ≡ addressNumber self ⌝ }
-    {
-        lowest_of(
-            self.is_bad(),
-            false,
-            false,
-            false,
-            false,
-            false,
-            false,
-            false,
-        )
-    }
-
     // The outputs, or three zeros where refused with 1.
-    pub fn locate(self) -> Located
-        ensures { λ r. ⌜ r ≡ located self ⌝ }
+    pub fn locate(self) -> Outputs
+        ensures { λ r. ⌜ r ≡ outputsOf self (located (stateOf self)) ⌝ }
     {
-        let number = self.address_number();
-        if number == 0 {
-            let f = self.format;
-            Located {
-                number: 0,
-                address: outputs(f, self.regs.x, self.regs.y),
-            }
-        } else {
-            Located {
-                number: number,
-                address: Address {
-                    low: 0,
-                    high: 0,
-                    msl: 0,
-                },
-            }
+        if self.is_bad() {
+            return Outputs {
+                number: 1,
+                low: 0,
+                high: 0,
+                msl: 0,
+            };
+        }
+        let f = format_of(self.modes);
+        let a = outputs(f, self.x, self.y);
+        Outputs {
+            number: 0,
+            low: a.low,
+            high: a.high,
+            msl: a.msl,
         }
     }
 }

@@ -1,118 +1,101 @@
 // The VB level: frames begin at a fall and end at a rise.
 ghost use mathlib.Core.Path.{_≡_};
-ghost use mathlib.Core.Bool.{false, not};
-ghost use lib.Dec.{eqb};
-ghost use Rattle.parts.specs.Format.{bytes};
-ghost use Rattle.parts.specs.Refusal.{lowest};
-ghost use Rattle.gdp.specs.Blanking.{fallen, clearEnds, penEnds, risen, afterVb, pictureVb};
-ghost use Rattle.gdp.specs.Refusals.{bad};
-ghost use Rattle.gdp.specs.Calls.{blanked, Leaves};
+ghost use mathlib.Core.Bool.{true, false};
+ghost use Rattle.rules.specs.Sequence.{endsClear};
+ghost use Rattle.rules.specs.Blanking.{fallen, clearEnds, lightPenEnds, risen, pictureVb};
+ghost use Rattle.gdp.specs.Flat.{flat, stateOf, named};
+ghost use Rattle.gdp.specs.Calls.{Blanks};
+ghost use Rattle.gdp.specs.Working.Makes.{Makes};
+ghost use Rattle.picture.specs.Bit.{bitAt};
+use crate::bits::format_of;
+use crate::bits::is_clear_open;
+use crate::bits::is_fill;
+use crate::bits::is_light_pen_open;
+use crate::bits::is_vb_high;
+use crate::bits::modes_at_fall;
+use crate::bits::signals_at_fall;
+use crate::bits::with_vb;
 use crate::state::Answer;
 use crate::state::Gdp;
 use crate::state::accepted;
 use crate::state::refused;
 use parts::format::bytes_of;
-use parts::refusal::lowest_of;
-use parts::sequence::clear_at_fall;
-use parts::sequence::clear_at_rise;
-use parts::sequence::does_clear_light;
-use parts::sequence::is_clear_open;
-use parts::sequence::is_pen_open;
-use parts::sequence::pen_at_fall;
-use parts::sequence::pen_at_rise;
 use picture::dot::bit_at;
 use picture::dot::set_all;
 
 impl Gdp {
-    // The frames of a clear and of a pen sequence that wait for one open.
+    // The frames of a clear and of a light pen sequence that wait for one open.
     fn fallen(mut self) -> Gdp
-        ensures { λ r. ⌜ r ≡ fallen self ⌝ }
+        ensures { λ r. ⌜ Makes fallen self r ⌝ }
     {
-        let w = self.work;
-        let p = self.pen;
-        self.vb = false;
-        self.with_work(clear_at_fall(w)).with_pen(pen_at_fall(p))
+        self.modes = modes_at_fall(self.modes);
+        self.signals = signals_at_fall(self.signals);
+        self
     }
 
-    // An open frame ends, and with it the clear (ready rises) and the pen's sequence.
-    fn risen(self) -> Gdp
-        ensures { λ r. ⌜ r ≡ risen self ⌝ }
+    // A rise of VB ends a clear that is inside its frame.
+    fn ends_clear(self) -> bool
+        ensures { λ r. ⌜ r ≡ endsClear (stateOf self .work) ⌝ }
     {
-        let w = self.work;
-        let p = self.pen;
-        let mut next = self.clear_ended().pen_ended().vb_raised();
-        next.vb = true;
-        next.with_work(clear_at_rise(w)).with_pen(pen_at_rise(p))
+        is_clear_open(self.modes)
     }
 
+    // A clear that ends: ready rises.
     fn clear_ended(self) -> Gdp
-        ensures { λ r. ⌜ r ≡ clearEnds self ⌝ }
+        ensures { λ r. ⌜ (named self ≡ true → r ≡ flat (clearEnds (stateOf self))) ⌝ }
     {
-        let w = self.work;
-        if is_clear_open(w) {
-            self.ready_raised()
-        } else {
-            self
+        if self.ends_clear() {
+            return self.idle().ready_raised();
         }
+        self.tidy()
     }
 
-    fn pen_ended(self) -> Gdp
-        ensures { λ r. ⌜ r ≡ penEnds self ⌝ }
+    fn light_pen_ended(self) -> Gdp
+        ensures { λ r. ⌜ Makes lightPenEnds self r ⌝ }
     {
-        let p = self.pen;
-        if is_pen_open(p) {
-            self.pen_raised()
-        } else {
-            self
+        if is_light_pen_open(self.signals) {
+            return self.light_pen_ends().light_pen_raised();
         }
+        self
     }
 
-    fn after_vb(self, level: bool) -> Gdp
-        ensures { λ r. ⌜ r ≡ afterVb self level ⌝ }
+    fn risen(self) -> Gdp
+        ensures { λ r. ⌜ (named self ≡ true → r ≡ flat (risen (stateOf self))) ⌝ }
     {
-        if self.vb {
-            if level { self } else { self.fallen() }
-        } else {
-            if level { self.risen() } else { self }
-        }
+        let mut next = self.clear_ended().light_pen_ended().vb_raised();
+        next.signals = with_vb(next.signals, true);
+        next
     }
 
-    // The picture changes whole, at the rise that ends a clear's frame and at no other time.
-    fn clear_picture(self, level: bool, pic: &mut [u8])
-        ensures { λ _. ⌜ now (pic .exit) ≡ pictureVb self level (now (pic .entry)) ⌝ }
+    // The picture changes whole, at the rise that ends a clear.
+    fn clear_picture(self, pic: &mut [u8])
+        ensures { λ _. ⌜ (bitAt 1 (self .signals) ≡ false → now (pic .exit) ≡ pictureVb (stateOf self) true (now (pic .entry))) ⌝ }
     {
-        let w = self.work;
-        if !self.vb & level & is_clear_open(w) {
-            set_all(pic, does_clear_light(w, bit_at(self.regs.ctrl1, 1)));
+        if self.ends_clear() {
+            set_all(pic, is_fill(self.modes) & bit_at(self.ctrl1, 1));
         }
-    }
-
-    fn vb_number(self, len: usize) -> u8
-        ensures { λ r. ⌜ r ≡ lowest (bad self) (not (eqb len (bytes (self .format)))) false false false false false false ⌝ }
-    {
-        let f = self.format;
-        lowest_of(
-            self.is_bad(),
-            len != bytes_of(f),
-            false,
-            false,
-            false,
-            false,
-            false,
-            false,
-        )
     }
 
     // Sets the VB level. The picture is lent for a clear's end; the present level changes nothing. Refused with 1 or 2.
     pub fn set_vb(self, level: bool, pic: &mut [u8]) -> Answer
-        ensures { λ r. ⌜ Leaves (blanked self level (now (pic .entry))) r (now (pic .exit)) ⌝ }
+        ensures { λ r. ⌜ Blanks self level (now (pic .entry)) r (now (pic .exit)) ⌝ }
     {
-        let number = self.vb_number(pic.len());
-        if number == 0 {
-            self.clear_picture(level, pic);
-            accepted(0, self.after_vb(level))
-        } else {
-            refused(number, self)
+        if self.is_bad() {
+            return refused(1, self);
         }
+        if pic.len() != bytes_of(format_of(self.modes)) {
+            return refused(2, self);
+        }
+        if is_vb_high(self.signals) {
+            if level {
+                return accepted(0, self.tidy());
+            }
+            return accepted(0, self.tidy().fallen());
+        }
+        if level {
+            self.clear_picture(pic);
+            return accepted(0, self.risen());
+        }
+        accepted(0, self.tidy())
     }
 }

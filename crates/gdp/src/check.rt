@@ -1,87 +1,102 @@
-// Refusal 1, which every call gives: states that the processor cannot be in.
+// Refusal 1, which every call gives: bytes that stand for no state, or for one that the processor cannot be in.
 ghost use mathlib.Core.Path.{_≡_};
-ghost use Prim.Native.Nat.{_≤_};
-ghost use Rattle.gdp.specs.Figure.{cyclesBy, tilted};
-ghost use Rattle.gdp.specs.Refusals.{badRegs, badWork, bad, busy};
+ghost use mathlib.Core.Bool.{true, _&&_};
+ghost use lib.Dec.{eqb};
+ghost use Rattle.parts.specs.Command.{kind, lettering};
+ghost use Rattle.rules.specs.Figure.{tilted, cycles};
+ghost use Rattle.rules.specs.Refusals.{badRegs, busy};
+ghost use Rattle.gdp.specs.Flat.{workIn, regsOf, stateOf};
+ghost use Rattle.gdp.specs.Calls.{flawed};
+ghost use Rattle.gdp.specs.Working.Check.{stray, badStep};
+use crate::bits::IDLE;
+use crate::bits::STEPS;
+use crate::bits::is_no_format;
+use crate::bits::is_stray_light_pen;
+use crate::bits::is_stray_work;
+use crate::bits::is_vb_high;
+use crate::bits::work_number;
 use crate::state::Gdp;
-use motion::character::block_of;
 use motion::character::character_of;
 use motion::vector::line_of;
-use parts::command::Kind;
-use parts::command::is_lettering;
-use parts::command::kind_of;
-use parts::sequence::Work;
-use parts::sequence::is_pen_open;
-use parts::sequence::is_ready;
+use parts::command::is_letter;
+use parts::command::is_line;
 use picture::dot::bit_at;
 
-// The cycles of a command by CSIZE and the deltas; 0 for one that takes no write cycle. Handed these numbers and not the
-// state, it costs no copy of it.
-pub fn cycles_by(code: u8, csize: u8, deltax: u8, deltay: u8) -> u16
-    ensures { λ r. ⌜ (r ≡ cyclesBy csize deltax deltay code) × (r ≤ 12288) ⌝ }
-{
-    let k = kind_of(code);
-    match k {
-        Kind::NoCycle => 0,
-        Kind::OneCycle => 1,
-        Kind::Vector => {
-            let l = line_of(code, deltax, deltay);
-            l.long + 1
-        }
-        Kind::Character => {
-            let b = character_of(csize);
-            b.columns * b.rows
-        }
-        Kind::Block => {
-            let b = block_of(csize);
-            b.columns * b.rows
-        }
-    }
-}
-
 impl Gdp {
-    pub fn is_tilted(self) -> bool
-        ensures { λ r. ⌜ r ≡ tilted (self .regs) ⌝ }
-    {
-        bit_at(self.regs.ctrl2, 2)
-    }
-
-    pub fn is_busy(self) -> bool
-        ensures { λ r. ⌜ r ≡ busy self ⌝ }
-    {
-        let w = self.work;
-        !is_ready(w)
-    }
-
     fn is_bad_regs(self) -> bool
-        ensures { λ r. ⌜ r ≡ badRegs (self .regs) ⌝ }
+        ensures { λ r. ⌜ r ≡ badRegs (regsOf self) ⌝ }
     {
-        let r = self.regs;
-        (4095 < r.x) | (4095 < r.y) | (127 < r.ctrl1) | (15 < r.ctrl2) | bit_at(r.xlp, 1)
+        (4095 < self.x)
+            | (4095 < self.y)
+            | (127 < self.ctrl1)
+            | (15 < self.ctrl2)
+            | bit_at(self.xlp, 1)
     }
 
-    fn is_bad_work(self) -> bool
-        ensures { λ r. ⌜ r ≡ badWork (self .regs) (self .vb) (self .work) ⌝ }
+    // What is cheap to test: a number that names nothing, a register out of its range, VB high inside an open frame.
+    pub(crate) fn is_stray(self) -> bool
+        ensures { λ r. ⌜ r ≡ stray self ⌝ }
     {
-        let w = self.work;
-        match w {
-            Work::Idle => false,
-            Work::Steps { code, done } => {
-                let r = self.regs;
-                let over = cycles_by(code, r.csize, r.deltax, r.deltay) <= done;
-                let k = kind_of(code);
-                over | (is_lettering(k) & self.is_tilted())
-            }
-            Work::Clear { fill: _, open } => self.vb & open,
+        if self.is_bad_regs() | is_no_format(self.modes) | is_stray_light_pen(self.signals) {
+            return true;
         }
+        is_stray_work(self.modes, is_vb_high(self.signals))
     }
 
-    pub fn is_bad(self) -> bool
-        ensures { λ r. ⌜ r ≡ bad self ⌝ }
+    // A character command while tilt is high.
+    pub(crate) fn is_tilted_letter(self, code: u8) -> bool
+        ensures { λ r. ⌜ r ≡ (lettering (kind code) && tilted (regsOf self)) ⌝ }
     {
-        let p = self.pen;
-        let regs = self.is_bad_regs();
-        let work = self.is_bad_work();
-        regs | work | (self.vb & is_pen_open(p))
+        is_letter(code) & bit_at(self.ctrl2, 2)
+    }
+
+    // The cycles of a character, 48 for each P times Q, or of the block 0B, 16 for each.
+    fn letter_cycles(self) -> u16
+        ensures { λ r. ⌜ (lettering (kind (self .code)) ≡ true → r ≡ cycles (regsOf self) (self .code)) ⌝ }
+    {
+        let b = character_of(self.csize);
+        if self.code == 0x0B {
+            return 16 * b.p * b.q;
+        }
+        48 * b.p * b.q
+    }
+
+    pub(crate) fn is_stepping(self) -> bool
+        ensures { λ r. ⌜ r ≡ eqb (workIn (self .modes)) 1 ⌝ }
+    {
+        work_number(self.modes) == STEPS
+    }
+
+    // A stepping command that cannot have come so far, or not with tilt high. Short, so that it is compiled into its callers
+    // and costs them no call.
+    pub(crate) fn is_bad_step(self) -> bool
+        ensures { λ r. ⌜ r ≡ badStep (regsOf self) (self .code) (self .done) ⌝ }
+    {
+        if is_letter(self.code) {
+            return bit_at(self.ctrl2, 2) | (self.letter_cycles() <= self.done);
+        }
+        if is_line(self.code) {
+            let l = line_of(self.code, self.deltax, self.deltay);
+            return l.long < self.done;
+        }
+        (self.code != 0x0F) | (self.done != 0)
+    }
+
+    pub(crate) fn is_bad(self) -> bool
+        ensures { λ r. ⌜ r ≡ flawed self ⌝ }
+    {
+        if self.is_stray() {
+            return true;
+        }
+        if self.is_stepping() {
+            return self.is_bad_step();
+        }
+        false
+    }
+
+    pub(crate) fn is_busy(self) -> bool
+        ensures { λ r. ⌜ r ≡ busy (stateOf self) ⌝ }
+    {
+        work_number(self.modes) != IDLE
     }
 }

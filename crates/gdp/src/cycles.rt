@@ -1,19 +1,26 @@
 // Granted write cycles.
 ghost use mathlib.Core.Path.{_≡_};
-ghost use mathlib.Core.Bool.{false, not};
-ghost use Prim.Native.Nat.{_+_, _≤_, min};
-ghost use lib.Dec.{eqb};
+ghost use mathlib.Core.Bool.{true, false, cond};
+ghost use Prim.Native.Nat.{_+_, _≤_};
+ghost use lib.Dec.{leb};
 ghost use lib.ListN.{length};
+ghost use Rattle.picture.specs.Screen.{Screen};
+ghost use Rattle.motion.specs.Character.{bodyCycles};
+ghost use Rattle.motion.specs.Working.Cells.{Sized};
 ghost use Rattle.parts.specs.declared.command.Kind.{Kind};
-ghost use Rattle.parts.specs.declared.sequence.Work.{Work};
-ghost use Rattle.parts.specs.Command.{kind};
-ghost use Rattle.parts.specs.Format.{bytes};
-ghost use Rattle.parts.specs.Refusal.{lowest};
-ghost use Rattle.gdp.specs.Figure.{turned};
-ghost use Rattle.gdp.specs.Refusals.{bad};
-ghost use Rattle.gdp.specs.Calls.{granted, Leaves};
-ghost use Rattle.gdp.specs.Runs.{tipOf, runOf, Fits, Ran, restsAt, taken};
-use crate::check::cycles_by;
+ghost use Rattle.parts.specs.Command.{kind, lettering};
+ghost use Rattle.drawing.specs.Figure.{Cells};
+ghost use Rattle.drawing.specs.Run.{Ran};
+ghost use Rattle.drawing.specs.Working.Cycle.{Granted};
+ghost use Rattle.rules.specs.Figure.{turned, tables, glyph, figure};
+ghost use Rattle.rules.specs.Cycles.{tip};
+ghost use Rattle.gdp.specs.Flat.{workIn, formatOf, regsOf, stateOf, named};
+ghost use Rattle.gdp.specs.Calls.{Grants};
+ghost use Rattle.gdp.specs.Working.Check.{stray};
+ghost use Rattle.gdp.specs.Working.Steps.{runOf, memoryNumber, flatAnswer, restsAt, HasTable};
+use crate::bits::STEPS;
+use crate::bits::format_of;
+use crate::bits::work_number;
 use crate::state::Answer;
 use crate::state::Gdp;
 use crate::state::accepted;
@@ -21,193 +28,184 @@ use crate::state::refused;
 use drawing::letters::draw_body;
 use drawing::strokes::draw_vector;
 use drawing::tip::Run;
-use drawing::tip::Spot;
 use drawing::tip::Tip;
+use motion::character::Body;
 use motion::character::block_of;
 use motion::character::character_of;
 use motion::glyph::glyph;
 use motion::glyph::solid_glyph;
+use motion::number::least;
+use motion::position::Spot;
 use motion::vector::line_of;
 use parts::command::Kind;
 use parts::command::kind_of;
 use parts::format::bytes_of;
-use parts::format::height_of;
-use parts::format::width_of;
-use parts::refusal::lowest_of;
-use parts::sequence::Work;
+use parts::format::window_of;
 use picture::dot::bit_at;
-
-pub fn least(a: u16, b: u16) -> u16
-    ensures { λ r. ⌜ (r ≡ min a b) × (r ≤ b) ⌝ }
-{
-    if a < b { a } else { b }
-}
 
 impl Gdp {
     // The tip of the pen or eraser over the format's window.
     fn tip(self) -> Tip
-        ensures { λ r. ⌜ r ≡ tipOf (self .format) (self .regs) ⌝ }
+        ensures { λ r. ⌜ r ≡ tip (formatOf self) (regsOf self) ⌝ }
     {
-        let f = self.format;
-        let c = self.regs.ctrl1;
+        let f = format_of(self.modes);
+        let w = window_of(f, bit_at(self.ctrl1, 3));
         Tip {
-            width: width_of(f) as usize,
-            height: height_of(f) as usize,
-            cyclic: bit_at(c, 3),
-            down: bit_at(c, 0),
-            lit: bit_at(c, 1),
+            window: w,
+            down: bit_at(self.ctrl1, 0),
+            lit: bit_at(self.ctrl1, 1),
         }
     }
 
-    fn is_turned(self) -> bool
-        ensures { λ r. ⌜ r ≡ turned (self .regs) ⌝ }
-    {
-        bit_at(self.regs.ctrl2, 3)
-    }
-
-    fn run_from(self, done: u16, used: u16) -> Run
-        ensures { λ r. ⌜ r ≡ runOf (self .regs) done used ⌝ }
+    // The command's next cycles, so many of them.
+    fn run(self, used: u16) -> Run
+        ensures { λ r. ⌜ r ≡ runOf self used ⌝ }
     {
         Run {
-            x: self.regs.x,
-            y: self.regs.y,
-            from: done,
+            at: Spot {
+                x: self.x,
+                y: self.y,
+            },
+            from: self.done,
             count: used,
         }
     }
 
-    // A run of a character: its generator is handed the part of the table that is its glyph; 0A has every dot.
-    fn draw_letter<'a>(
-        self,
-        code: u8,
-        done: u16,
-        used: u16,
-        pic: &mut [u8],
-        table: &'a [u8],
-    ) -> Spot
-        requires { ⌜ kind code ≡ Kind.Character ⌝ }
-        requires { ⌜ Fits (self .format) (self .regs) code done used (now pic) (now table) ⌝ }
-        ensures { λ s. ⌜ Ran (self .format) (self .regs) (now (table .entry)) code done used s (now (pic .entry)) (now (pic .exit)) ⌝ }
+    // Refusals 2 and 3, by the lengths of picture and table.
+    fn memory_number(self, picture: usize, table: usize) -> u8
+        ensures { λ r. ⌜ r ≡ memoryNumber self picture table ⌝ }
     {
-        let t = self.tip();
-        let turned = self.is_turned();
-        let b = character_of(self.regs.csize);
-        let run = self.run_from(done, used);
-        if code == 0x0A {
-            let solid = solid_glyph();
-            return draw_body(pic, t, turned, b, &solid, run);
+        if picture != bytes_of(format_of(self.modes)) {
+            return 2;
         }
-        draw_body(pic, t, turned, b, glyph(table, code), run)
-    }
-
-    fn draw_block(self, code: u8, done: u16, used: u16, pic: &mut [u8], table: &[u8]) -> Spot
-        requires { ⌜ kind code ≡ Kind.Block ⌝ }
-        requires { ⌜ Fits (self .format) (self .regs) code done used (now pic) (now table) ⌝ }
-        ensures { λ s. ⌜ Ran (self .format) (self .regs) (now (table .entry)) code done used s (now (pic .entry)) (now (pic .exit)) ⌝ }
-    {
-        let t = self.tip();
-        let turned = self.is_turned();
-        let b = block_of(self.regs.csize);
-        let run = self.run_from(done, used);
-        let solid = solid_glyph();
-        draw_body(pic, t, turned, b, &solid, run)
-    }
-
-    fn draw_line(self, code: u8, done: u16, used: u16, pic: &mut [u8], table: &[u8]) -> Spot
-        requires { ⌜ kind code ≡ Kind.Vector ⌝ }
-        requires { ⌜ Fits (self .format) (self .regs) code done used (now pic) (now table) ⌝ }
-        ensures { λ s. ⌜ Ran (self .format) (self .regs) (now (table .entry)) code done used s (now (pic .entry)) (now (pic .exit)) ⌝ }
-    {
-        let t = self.tip();
-        let l = line_of(code, self.regs.deltax, self.regs.deltay);
-        let run = self.run_from(done, used);
-        draw_vector(pic, t, self.regs.ctrl2, l, run)
-    }
-
-    // A run of the command's next cycles: its dots, and the place after it.
-    fn draw_run(self, code: u8, done: u16, used: u16, pic: &mut [u8], table: &[u8]) -> Spot
-        requires { ⌜ Fits (self .format) (self .regs) code done used (now pic) (now table) ⌝ }
-        ensures { λ s. ⌜ Ran (self .format) (self .regs) (now (table .entry)) code done used s (now (pic .entry)) (now (pic .exit)) ⌝ }
-    {
-        let k = kind_of(code);
-        match k {
-            Kind::NoCycle => Spot {
-                x: self.regs.x,
-                y: self.regs.y,
-            },
-            Kind::OneCycle => Spot {
-                x: self.regs.x,
-                y: self.regs.y,
-            },
-            Kind::Vector => self.draw_line(code, done, used, pic, table),
-            Kind::Character => self.draw_letter(code, done, used, pic, table),
-            Kind::Block => self.draw_block(code, done, used, pic, table),
+        if table != 480 {
+            return 3;
         }
+        0
+    }
+
+    // The refusals of a command that steps, its cycles at hand: 1 where it cannot have come so far, then 2 and 3.
+    fn step_number(self, cycles: u16, picture: usize, table: usize) -> u8
+        ensures { λ r. ⌜ r ≡ cond (leb cycles (self .done)) 1 (memoryNumber self picture table) ⌝ }
+    {
+        if cycles <= self.done {
+            return 1;
+        }
+        self.memory_number(picture, table)
     }
 
     // After a run: X and Y at its place; with the last cycle ready rises.
-    fn after_run(self, code: u8, done: u16, used: u16, left: u16, s: Spot) -> Answer
-        requires { ⌜ done + used ≤ 65535 ⌝ }
-        ensures { λ r. ⌜ r ≡ restsAt self code done used left s ⌝ }
+    fn after_run(mut self, used: u16, left: u16, s: Spot) -> Answer
+        requires { ⌜ self .done + used ≤ 65535 ⌝ }
+        ensures { λ r. ⌜ (named self ≡ true → workIn (self .modes) ≡ 1 → r ≡ flatAnswer (restsAt (stateOf self) (self .code) (self .done) used left s)) ⌝ }
     {
-        let mut next = self;
-        next.regs.x = s.x;
-        next.regs.y = s.y;
+        self.x = s.x;
+        self.y = s.y;
         if used == left {
-            return accepted(used, next.with_work(Work::Idle).ready_raised());
+            return accepted(used, self.idle().ready_raised());
         }
-        accepted(
-            used,
-            next.with_work(Work::Steps {
-                code: code,
-                done: done + used,
-            }),
-        )
+        self.done = self.done + used;
+        accepted(used, self.stepping())
     }
 
-    // The cycles of a running command: used, the smaller of n and those left.
-    fn step(self, code: u8, done: u16, n: u16, pic: &mut [u8], table: &[u8]) -> Answer
-        requires { ⌜ (self .work ≡ Work.Steps code done) × (bad self ≡ false) ⌝ }
-        requires { ⌜ (length (now pic) ≡ bytes (self .format)) × (length (now table) ≡ 480) ⌝ }
-        ensures { λ r. ⌜ Leaves (taken self n (now (pic .entry)) (now (table .entry))) r (now (pic .exit)) ⌝ }
+    // A run of a character or block: its generator is handed the part of the table that is its glyph; 0A and 0B have every dot.
+    fn draw_letter<'a>(self, b: Body, used: u16, pic: &mut [u8], table: &'a [u8]) -> Spot
+        requires { ⌜ Screen (tip (formatOf self) (regsOf self) .window) (length (now pic)) ⌝ }
+        requires { ⌜ Sized b × (bodyCycles b ≤ 20000) × HasTable (self .code) (now table) × Granted (Cells (turned (regsOf self)) b) (runOf self used) ⌝ }
+        ensures { λ s. ⌜ Ran (tip (formatOf self) (regsOf self)) (Cells (turned (regsOf self)) b) (glyph (tables (now (table .entry))) (self .code)) (runOf self used) s (now (pic .entry)) (now (pic .exit)) ⌝ }
     {
-        let r = self.regs;
-        let left = cycles_by(code, r.csize, r.deltax, r.deltay) - done;
+        let t = self.tip();
+        let turned = bit_at(self.ctrl2, 3);
+        let run = self.run(used);
+        if (self.code == 0x0A) | (self.code == 0x0B) {
+            let solid = solid_glyph();
+            return draw_body(pic, t, turned, b, &solid, run);
+        }
+        draw_body(pic, t, turned, b, glyph(table, self.code), run)
+    }
+
+    // A running character or block.
+    fn grant_body(self, b: Body, n: u16, pic: &mut [u8], table: &[u8]) -> Answer
+        requires { ⌜ (stray self ≡ false) × (workIn (self .modes) ≡ 1) × (lettering (kind (self .code)) ≡ true) ⌝ }
+        requires { ⌜ (figure (regsOf self) (self .code) ≡ Cells (turned (regsOf self)) b) × Sized b × (bodyCycles b ≤ 12288) ⌝ }
+        ensures { λ r. ⌜ Grants self n (now (pic .entry)) (now (table .entry)) r (now (pic .exit)) ⌝ }
+    {
+        if bit_at(self.ctrl2, 2) {
+            return refused(1, self);
+        }
+        let cycles = b.columns * b.rows;
+        let number = self.step_number(cycles, pic.len(), table.len());
+        if number != 0 {
+            return refused(number, self);
+        }
+        let left = cycles - self.done;
         let used = least(n, left);
-        let s = self.draw_run(code, done, used, pic, table);
-        self.after_run(code, done, used, left, s)
+        let s = self.draw_letter(b, used, pic, table);
+        self.after_run(used, left, s)
     }
 
-    fn grant_number(self, picture: usize, table: usize) -> u8
-        ensures { λ r. ⌜ r ≡ lowest (bad self) (not (eqb picture (bytes (self .format)))) (not (eqb table 480)) false false false false false ⌝ }
+    // A running vector.
+    fn grant_line(self, n: u16, pic: &mut [u8], table: &[u8]) -> Answer
+        requires { ⌜ (stray self ≡ false) × (workIn (self .modes) ≡ 1) × (kind (self .code) ≡ Kind.Vector) ⌝ }
+        ensures { λ r. ⌜ Grants self n (now (pic .entry)) (now (table .entry)) r (now (pic .exit)) ⌝ }
     {
-        let f = self.format;
-        lowest_of(
-            self.is_bad(),
-            picture != bytes_of(f),
-            table != 480,
-            false,
-            false,
-            false,
-            false,
-            false,
-        )
+        let l = line_of(self.code, self.deltax, self.deltay);
+        let number = self.step_number(l.long + 1, pic.len(), table.len());
+        if number != 0 {
+            return refused(number, self);
+        }
+        let left = l.long + 1 - self.done;
+        let used = least(n, left);
+        let s = draw_vector(pic, self.tip(), self.ctrl2, l, self.run(used));
+        self.after_run(used, left, s)
+    }
+
+    // 0F, which runs: one cycle and no dot.
+    fn grant_pause(self, n: u16, pic: &mut [u8], table: &[u8]) -> Answer
+        requires { ⌜ (stray self ≡ false) × (workIn (self .modes) ≡ 1) × (kind (self .code) ≡ Kind.OneCycle) ⌝ }
+        ensures { λ r. ⌜ Grants self n (now (pic .entry)) (now (table .entry)) r (now (pic .exit)) ⌝ }
+    {
+        let number = self.step_number(1, pic.len(), table.len());
+        if number != 0 {
+            return refused(number, self);
+        }
+        let used = least(n, 1);
+        let s = Spot {
+            x: self.x,
+            y: self.y,
+        };
+        self.after_run(used, 1, s)
+    }
+
+    // A command that steps: its line or body is found once, for refusal 1 and for the drawing.
+    fn grant_steps(self, n: u16, pic: &mut [u8], table: &[u8]) -> Answer
+        requires { ⌜ (stray self ≡ false) × (workIn (self .modes) ≡ 1) ⌝ }
+        ensures { λ r. ⌜ Grants self n (now (pic .entry)) (now (table .entry)) r (now (pic .exit)) ⌝ }
+    {
+        let k = kind_of(self.code);
+        match k {
+            Kind::NoCycle => refused(1, self),
+            Kind::OneCycle => self.grant_pause(n, pic, table),
+            Kind::Vector => self.grant_line(n, pic, table),
+            Kind::Character => self.grant_body(character_of(self.csize), n, pic, table),
+            Kind::Block => self.grant_body(block_of(self.csize), n, pic, table),
+        }
     }
 
     // Grants n write cycles: those used are the value. Refused with 1, 2 or 3.
     pub fn grant(self, n: u16, pic: &mut [u8], table: &[u8]) -> Answer
-        ensures { λ r. ⌜ Leaves (granted self n (now (pic .entry)) (now (table .entry))) r (now (pic .exit)) ⌝ }
+        ensures { λ r. ⌜ Grants self n (now (pic .entry)) (now (table .entry)) r (now (pic .exit)) ⌝ }
     {
-        let number = self.grant_number(pic.len(), table.len());
-        if number == 0 {
-            let w = self.work;
-            match w {
-                Work::Idle => accepted(0, self),
-                Work::Steps { code, done } => self.step(code, done, n, pic, table),
-                Work::Clear { fill: _, open: _ } => accepted(0, self),
-            }
-        } else {
-            refused(number, self)
+        if self.is_stray() {
+            return refused(1, self);
         }
+        if work_number(self.modes) == STEPS {
+            return self.grant_steps(n, pic, table);
+        }
+        let number = self.memory_number(pic.len(), table.len());
+        if number != 0 {
+            return refused(number, self);
+        }
+        accepted(0, self.tidy())
     }
 }

@@ -1,13 +1,15 @@
-// The EF9365 and EF9366 as a register file by value, with its six calls.
-// Proved: each call gives, for every input, exactly the answer and the picture of specs/Calls. No call requires anything.
-// Assumes nothing.
+// The EF9365 and EF9366: a struct of sixteen bytes by value whose methods are the calls, and the names by which C and Rust call them.
+// Proved: each call gives, for every sixteen bytes and every lent memory, exactly what the definitions of crate rules give for the
+// state that the bytes stand for, and its statement allows no other result. No call requires anything. Assumes nothing.
 pub mod address;
+mod bits;
 pub mod blanking;
-pub mod check;
-pub mod commands;
+pub mod calls;
+mod check;
+mod commands;
 pub mod cycles;
 pub mod light_pen;
 pub mod read;
 pub mod state;
-pub mod status;
+mod status;
 pub mod write;

@@ -1,58 +1,41 @@
 // An LPCK edge.
 ghost use mathlib.Core.Path.{_≡_};
 ghost use Prim.Native.Nat.{_≤_};
-ghost use Rattle.gdp.specs.Blanking.{afterEdge};
-ghost use Rattle.gdp.specs.Refusals.{edgeNumber};
-ghost use Rattle.gdp.specs.Calls.{struck};
+ghost use Rattle.rules.specs.Blanking.{afterEdge};
+ghost use Rattle.rules.specs.Calls.{struck};
+ghost use Rattle.gdp.specs.Flat.{stateOf};
+ghost use Rattle.gdp.specs.Calls.{answerOf};
+ghost use Rattle.gdp.specs.Working.Makes.{Makes};
+use crate::bits::is_light_pen_open;
 use crate::state::Answer;
 use crate::state::Gdp;
 use crate::state::accepted;
 use crate::state::refused;
-use parts::refusal::lowest_of;
-use parts::sequence::Pen;
-use parts::sequence::is_pen_open;
 
 impl Gdp {
     // In the open frame the edge loads XLP and YLP and ends the sequence; at other times it does nothing.
     fn after_edge(mut self, h: u16, v: u16) -> Gdp
         requires { ⌜ (h ≤ 63) × (v ≤ 255) ⌝ }
-        ensures { λ r. ⌜ r ≡ afterEdge self h v ⌝ }
+        ensures { λ r. ⌜ Makes (λ s. afterEdge s h v) self r ⌝ }
     {
-        let p = self.pen;
-        if is_pen_open(p) {
-            let xlp = (4 * h + 1) as u8;
-            let ylp = v as u8;
-            self.regs.xlp = xlp;
-            self.regs.ylp = ylp;
-            return self.pen_raised().with_pen(Pen::Off);
+        if is_light_pen_open(self.signals) {
+            self.xlp = (4 * h + 1) as u8;
+            self.ylp = v as u8;
+            return self.light_pen_ends().light_pen_raised();
         }
         self
     }
 
-    fn edge_number(self, h: u16, v: u16) -> u8
-        ensures { λ r. ⌜ r ≡ edgeNumber self h v ⌝ }
-    {
-        lowest_of(
-            self.is_bad(),
-            false,
-            false,
-            false,
-            false,
-            false,
-            false,
-            (63 < h) | (255 < v),
-        )
-    }
-
     // Reports an LPCK edge at segment h and line v. Refused with 1 or 8.
     pub fn strike_lpck(self, h: u16, v: u16) -> Answer
-        ensures { λ r. ⌜ r ≡ struck self h v ⌝ }
+        ensures { λ r. ⌜ r ≡ answerOf self (struck (stateOf self) h v) ⌝ }
     {
-        let number = self.edge_number(h, v);
-        if number == 0 {
-            accepted(0, self.after_edge(h, v))
-        } else {
-            refused(number, self)
+        if self.is_bad() {
+            return refused(1, self);
         }
+        if (63 < h) | (255 < v) {
+            return refused(8, self);
+        }
+        accepted(0, self.tidy().after_edge(h, v))
     }
 }

@@ -1,146 +1,59 @@
-// The state of the processor, by value. The place where a running command began is not kept: it is X and Y less
-// the way that its used cycles went, so no state can be at odds with itself.
+// The state of the processor in sixteen bytes, as C and Rust hand it over, and what a call gives back.
 ghost use mathlib.Core.Path.{_≡_};
-ghost use Rattle.gdp.specs.State.{fresh, withWork, withPen, penRaises, vbRaises, readyRaises};
-use parts::address::Address;
+ghost use mathlib.Core.Bool.{true, false};
+ghost use Rattle.rules.specs.Sequence.{Idle, Steps, Clear, Off, Waiting};
+ghost use Rattle.rules.specs.State.{fresh, withWork, withLightPen, readyRaises, vbRaises, lightPenRaises};
+ghost use Rattle.gdp.specs.Flat.{flat, stateOf, named};
+ghost use Rattle.gdp.specs.Working.Makes.{Makes};
+use crate::bits::CLEAR;
+use crate::bits::FILL;
+use crate::bits::IDLE;
+use crate::bits::LIGHT_PEN_FLAG;
+use crate::bits::LIGHT_PEN_OFF;
+use crate::bits::LIGHT_PEN_WAITS;
+use crate::bits::READY_FLAG;
+use crate::bits::STEPS;
+use crate::bits::VB_FLAG;
+use crate::bits::clear_modes;
+use crate::bits::in_use;
+use crate::bits::modes_of;
+use crate::bits::with_flag;
+use crate::bits::with_light_pen;
+use crate::bits::with_work;
+use crate::bits::work_number;
 use parts::format::Format;
-use parts::sequence::Pen;
-use parts::sequence::Work;
 use picture::dot::bit_at;
 
-pub struct Regs {
+// X and Y; the cycles that the stepping command has used; the registers; the code of the command that steps; what runs and
+// the format; VB, the light pen's sequence and the flags. What is not in use is not looked at, and 0 in what an accepted call
+// hands back.
+#[repr(C)]
+pub struct Gdp {
+    pub x: u16,
+    pub y: u16,
+    pub done: u16,
     pub ctrl1: u8,
     pub ctrl2: u8,
     pub csize: u8,
     pub deltax: u8,
     pub deltay: u8,
-    pub x: u16,
-    pub y: u16,
     pub xlp: u8,
     pub ylp: u8,
+    pub code: u8,
+    pub modes: u8,
+    pub signals: u8,
 }
 
-// The flags of STATUS bits 4, 5 and 6.
-pub struct Flags {
-    pub pen: bool,
-    pub vb: bool,
-    pub ready: bool,
-}
-
-pub struct Gdp {
-    pub format: Format,
-    pub regs: Regs,
-    pub work: Work,
-    pub pen: Pen,
-    pub vb: bool,
-    pub flags: Flags,
-}
-
-// What a call gives back: the refusal number or 0, the value, and the next state.
+// The refusal number or 0, the value, and the next state.
+#[repr(C)]
 pub struct Answer {
     pub number: u8,
     pub value: u16,
     pub state: Gdp,
 }
 
-// What the address call gives back.
-pub struct Located {
-    pub number: u8,
-    pub address: Address,
-}
-
-impl Gdp {
-    // The fresh state of a format.
-    pub fn fresh(format: Format) -> Gdp
-        ensures { λ r. ⌜ r ≡ fresh format ⌝ }
-    {
-        Gdp {
-            format: format,
-            regs: Regs {
-                ctrl1: 0,
-                ctrl2: 0,
-                csize: 0x11,
-                deltax: 0,
-                deltay: 0,
-                x: 0,
-                y: 0,
-                xlp: 0,
-                ylp: 0,
-            },
-            work: Work::Idle,
-            pen: Pen::Off,
-            vb: false,
-            flags: Flags {
-                pen: false,
-                vb: false,
-                ready: false,
-            },
-        }
-    }
-
-    // An enum's field is not stored to: the state is written anew.
-    pub fn with_work(self, w: Work) -> Gdp
-        ensures { λ r. ⌜ r ≡ withWork w self ⌝ }
-    {
-        let format = self.format;
-        let regs = self.regs;
-        let pen = self.pen;
-        let flags = self.flags;
-        Gdp {
-            format: format,
-            regs: regs,
-            work: w,
-            pen: pen,
-            vb: self.vb,
-            flags: flags,
-        }
-    }
-
-    pub fn with_pen(self, p: Pen) -> Gdp
-        ensures { λ r. ⌜ r ≡ withPen p self ⌝ }
-    {
-        let format = self.format;
-        let regs = self.regs;
-        let work = self.work;
-        let flags = self.flags;
-        Gdp {
-            format: format,
-            regs: regs,
-            work: work,
-            pen: p,
-            vb: self.vb,
-            flags: flags,
-        }
-    }
-
-    // A signal rises: its flag is set while its bit of CTRL1 is high.
-    pub fn ready_raised(mut self) -> Gdp
-        ensures { λ r. ⌜ r ≡ readyRaises self ⌝ }
-    {
-        let set = self.flags.ready | bit_at(self.regs.ctrl1, 6);
-        self.flags.ready = set;
-        self
-    }
-
-    pub fn vb_raised(mut self) -> Gdp
-        ensures { λ r. ⌜ r ≡ vbRaises self ⌝ }
-    {
-        let set = self.flags.vb | bit_at(self.regs.ctrl1, 5);
-        self.flags.vb = set;
-        self
-    }
-
-    pub fn pen_raised(mut self) -> Gdp
-        ensures { λ r. ⌜ r ≡ penRaises self ⌝ }
-    {
-        let set = self.flags.pen | bit_at(self.regs.ctrl1, 4);
-        self.flags.pen = set;
-        self
-    }
-}
-
 // What a refusal gives back: value 0 and the state as handed in.
-pub fn refused(number: u8, state: Gdp) -> Answer
+pub(crate) fn refused(number: u8, state: Gdp) -> Answer
     ensures { λ r. ⌜ r ≡ record { number = number; value = 0; state = state } ⌝ }
 {
     Answer {
@@ -150,12 +63,133 @@ pub fn refused(number: u8, state: Gdp) -> Answer
     }
 }
 
-pub fn accepted(value: u16, state: Gdp) -> Answer
+pub(crate) fn accepted(value: u16, state: Gdp) -> Answer
     ensures { λ r. ⌜ r ≡ record { number = 0; value = value; state = state } ⌝ }
 {
     Answer {
         number: 0,
         value: value,
         state: state,
+    }
+}
+
+impl Gdp {
+    // The fresh state of a format.
+    pub fn fresh(format: Format) -> Gdp
+        ensures { λ r. ⌜ r ≡ flat (fresh format) ⌝ }
+    {
+        Gdp {
+            x: 0,
+            y: 0,
+            done: 0,
+            ctrl1: 0,
+            ctrl2: 0,
+            csize: 0x11,
+            deltax: 0,
+            deltay: 0,
+            xlp: 0,
+            ylp: 0,
+            code: 0,
+            modes: modes_of(format),
+            signals: 0,
+        }
+    }
+
+    // Nothing runs, and what is not in use is 0.
+    pub(crate) fn idle(mut self) -> Gdp
+        ensures { λ r. ⌜ (named self ≡ true → r ≡ flat (withWork Idle (stateOf self))) ⌝ }
+    {
+        self.code = 0;
+        self.done = 0;
+        self.modes = with_work(self.modes, IDLE);
+        self.signals = in_use(self.signals);
+        self
+    }
+
+    // The command steps, and what is not in use is 0.
+    pub(crate) fn stepping(mut self) -> Gdp
+        ensures { λ r. ⌜ (named self ≡ true → r ≡ flat (withWork (Steps (self .code) (self .done)) (stateOf self))) ⌝ }
+    {
+        self.modes = with_work(self.modes, STEPS);
+        self.signals = in_use(self.signals);
+        self
+    }
+
+    // What is not in use is 0.
+    pub(crate) fn tidy(mut self) -> Gdp
+        ensures { λ r. ⌜ (named self ≡ true → r ≡ flat (stateOf self)) ⌝ }
+    {
+        let work = work_number(self.modes);
+        if work == IDLE {
+            return self.idle();
+        }
+        if work == STEPS {
+            return self.stepping();
+        }
+        self.code = 0;
+        self.done = 0;
+        self.signals = in_use(self.signals);
+        self.modes = clear_modes(self.modes);
+        self
+    }
+
+    // A command with write cycles begins.
+    pub(crate) fn begins(mut self, code: u8) -> Gdp
+        ensures { λ r. ⌜ Makes (withWork (Steps code 0)) self r ⌝ }
+    {
+        self.code = code;
+        self.done = 0;
+        self.modes = with_work(self.modes, STEPS);
+        self
+    }
+
+    // A clear waits for its frame.
+    pub(crate) fn clears(mut self, fill: bool) -> Gdp
+        ensures { λ r. ⌜ Makes (withWork (Clear fill false)) self r ⌝ }
+    {
+        self.code = 0;
+        self.done = 0;
+        if fill {
+            self.modes = with_work(self.modes, FILL);
+            return self;
+        }
+        self.modes = with_work(self.modes, CLEAR);
+        self
+    }
+
+    pub(crate) fn light_pen_waits(mut self) -> Gdp
+        ensures { λ r. ⌜ Makes (withLightPen Waiting) self r ⌝ }
+    {
+        self.signals = with_light_pen(self.signals, LIGHT_PEN_WAITS);
+        self
+    }
+
+    pub(crate) fn light_pen_ends(mut self) -> Gdp
+        ensures { λ r. ⌜ Makes (withLightPen Off) self r ⌝ }
+    {
+        self.signals = with_light_pen(self.signals, LIGHT_PEN_OFF);
+        self
+    }
+
+    // A signal rises: its flag is set while its bit of CTRL1 is high.
+    pub(crate) fn ready_raised(mut self) -> Gdp
+        ensures { λ r. ⌜ Makes readyRaises self r ⌝ }
+    {
+        self.signals = with_flag(self.signals, READY_FLAG, bit_at(self.ctrl1, 6));
+        self
+    }
+
+    pub(crate) fn vb_raised(mut self) -> Gdp
+        ensures { λ r. ⌜ Makes vbRaises self r ⌝ }
+    {
+        self.signals = with_flag(self.signals, VB_FLAG, bit_at(self.ctrl1, 5));
+        self
+    }
+
+    pub(crate) fn light_pen_raised(mut self) -> Gdp
+        ensures { λ r. ⌜ Makes lightPenRaises self r ⌝ }
+    {
+        self.signals = with_flag(self.signals, LIGHT_PEN_FLAG, bit_at(self.ctrl1, 4));
+        self
     }
 }

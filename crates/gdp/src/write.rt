@@ -1,23 +1,33 @@
 // Writing a register: address 0 is CMD.
 ghost use mathlib.Core.Path.{_≡_};
-ghost use Rattle.gdp.specs.Registers.{stored};
-ghost use Rattle.gdp.specs.Commands.{afterWrite};
-ghost use Rattle.gdp.specs.Refusals.{tiltedCharacter, writeNumber};
-ghost use Rattle.gdp.specs.Calls.{written};
-use crate::read::is_no_address;
+ghost use Rattle.rules.specs.Registers.{stored};
+ghost use Rattle.rules.specs.Refusals.{noRegister, readOnly};
+ghost use Rattle.rules.specs.Calls.{written};
+ghost use Rattle.gdp.specs.Flat.{stateOf, regsOf, putRegs};
+ghost use Rattle.gdp.specs.Calls.{answerOf};
 use crate::state::Answer;
 use crate::state::Gdp;
-use crate::state::Regs;
 use crate::state::accepted;
 use crate::state::refused;
-use parts::command::is_lettering;
-use parts::command::kind_of;
-use parts::refusal::lowest_of;
 
-impl Regs {
+// Address 4, 6, E or F, or above 15.
+fn is_no_register(address: u8) -> bool
+    ensures { λ r. ⌜ r ≡ noRegister address ⌝ }
+{
+    (address == 0x4) | (address == 0x6) | (0xE <= address)
+}
+
+// XLP and YLP.
+fn is_read_only(address: u8) -> bool
+    ensures { λ r. ⌜ r ≡ readOnly address ⌝ }
+{
+    (address == 0xC) | (address == 0xD)
+}
+
+impl Gdp {
     // A byte stored at an address, unused bits dropped.
-    pub fn stored(mut self, address: u8, value: u8) -> Regs
-        ensures { λ r. ⌜ r ≡ stored self address value ⌝ }
+    fn stored(mut self, address: u8, value: u8) -> Gdp
+        ensures { λ r. ⌜ r ≡ putRegs (stored (regsOf self) address value) self ⌝ }
     {
         match address {
             0x1 => {
@@ -59,54 +69,32 @@ impl Regs {
             _ => self,
         }
     }
-}
-
-impl Gdp {
-    fn is_tilted_character(self, address: u8, value: u8) -> bool
-        ensures { λ r. ⌜ r ≡ tiltedCharacter self address value ⌝ }
-    {
-        let k = kind_of(value);
-        (address == 0x0) & is_lettering(k) & self.is_tilted()
-    }
-
-    fn write_number(self, address: u8, value: u8) -> u8
-        ensures { λ r. ⌜ r ≡ writeNumber self address value ⌝ }
-    {
-        let pen = (address == 0xC) | (address == 0xD);
-        let tilted = self.is_tilted_character(address, value);
-        lowest_of(
-            self.is_bad(),
-            false,
-            false,
-            is_no_address(address),
-            pen,
-            self.is_busy(),
-            tilted,
-            false,
-        )
-    }
-
-    fn after_write(mut self, address: u8, value: u8) -> Gdp
-        ensures { λ r. ⌜ r ≡ afterWrite self address value ⌝ }
-    {
-        if address == 0x0 {
-            return self.begun(value);
-        }
-        let regs = self.regs;
-        let next = regs.stored(address, value);
-        self.regs = next;
-        self
-    }
 
     // Writes a byte to the register at an address; at 0 it is a command. Refused with 1, 4, 5, 6 or 7.
     pub fn write(self, address: u8, value: u8) -> Answer
-        ensures { λ r. ⌜ r ≡ written self address value ⌝ }
+        ensures { λ r. ⌜ r ≡ answerOf self (written (stateOf self) address value) ⌝ }
     {
-        let number = self.write_number(address, value);
-        if number == 0 {
-            accepted(0, self.after_write(address, value))
-        } else {
-            refused(number, self)
+        if self.is_stray() {
+            return refused(1, self);
         }
+        if self.is_stepping() && self.is_bad_step() {
+            return refused(1, self);
+        }
+        if is_no_register(address) {
+            return refused(4, self);
+        }
+        if is_read_only(address) {
+            return refused(5, self);
+        }
+        if self.is_busy() {
+            return refused(6, self);
+        }
+        if address != 0x0 {
+            return accepted(0, self.idle().stored(address, value));
+        }
+        if self.is_tilted_letter(value) {
+            return refused(7, self);
+        }
+        accepted(0, self.idle().begun(value))
     }
 }

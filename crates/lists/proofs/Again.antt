@@ -1,128 +1,109 @@
 -- The list played again from where it began, with the pen or the eraser: it paints the same dots, and ends beside the first end.
 -- Assumes nothing.
 use mathlib.Core.Path.{_≡_, refl, sym, ap, _∙_, subst}
-use mathlib.Core.Bool.{Bool, true, false, _||_, or-comm, or-self}
-use mathlib.Core.List.{List}
-use Prim.Native.Nat.{ℕ}
+use mathlib.Core.Bool.{Bool, true, false, _||_, or-comm, or-self, or-self-left}
+use mathlib.Core.List.{List, _++_}
 use native.Mathlib.Omega.{arith}
-use lib.ListN.{length}
 use Rattle.picture.specs.Bit.{bitAt}
-use Rattle.picture.specs.Dot.{paint}
-use Rattle.picture.proofs.Bits.{bit-same, bit-other, bit-keep}
-use Rattle.picture.proofs.Dots.{paint-length}
-use Rattle.gdp.specs.declared.state.Flags.{Flags}
-use Rattle.gdp.specs.declared.state.Gdp.{Gdp}
-use Rattle.gdp.specs.State.{flags, withCtrl1, withRegs, withFlags, readyRaises}
-use Rattle.gdp.specs.Cycles.{lights}
-use Rattle.gdp.proofs.GoodParts.{good-from, good-to, flags-put}
+use Rattle.picture.proofs.Laws.{bit-same, bit-other, paint-length}
+use Rattle.rules.specs.State.{Flags, State, flags, withFlags, readyRaises}
+use Rattle.rules.specs.Cycles.{lights}
+use Rattle.rules.specs.Card.{Card, played}
 use Rattle.lists.specs.Item.{Item}
 use Rattle.lists.specs.Play.{Fit, Plays, doneAll, listDots}
-use Rattle.lists.specs.Erase.{putBack, eraserByWrite, eraserByCommand}
-use Rattle.lists.proofs.Items.{Calm, frame, list-frame, list-calm}
-use Rattle.lists.proofs.Twin.{relit, twin, twin-good, twin-list, twin-dots-list}
-use Rattle.lists.proofs.Played.{calm, played}
-use Rattle.lists.proofs.Back.{restarts, erases-by-write, erases-by-command}
+use Rattle.lists.specs.Erase.{backTo, eraserByWrite, eraserByCommand}
+use Rattle.lists.proofs.Items.{Calm, list-frame, list-calm}
+use Rattle.lists.proofs.Twin.{beside, own, beside-calm, twin, twin-list, twin-dots-list}
+use Rattle.lists.proofs.Splits.{withDots}
+use Rattle.lists.proofs.Played.{calm, leftBy, leaves}
+use Rattle.lists.proofs.Back.{withState, restarts, erases-by-write, erases-by-command}
 
--- with its own bit and flags a state is its own twin
-own-twin : (s : Gdp) → twin (lights (s .regs)) (s .flags) s ≡ s
-unfolding lights
-own-twin s =
-    let c = s .regs .ctrl1 in
-    let e = bit-keep (bitAt 1 c) 1 c refl in
-    let r = or-self (s .flags .ready) in
-    λ j. withFlags (flags (s .flags .pen) (s .flags .vb) (r j)) (withRegs (withCtrl1 (e j) (s .regs)) s)
+-- the flags with ready as asked
+abbrev pub withReady : Bool → Flags → Flags
+withReady r f = flags (f .lightPen) (f .vb) r
 
 -- flags that have ready high where the state has it make the twin
-as-twin : (lit : Bool) (f : Flags) (s : Gdp) → (f .ready || s .flags .ready) ≡ f .ready
-    → withFlags f (withRegs (relit lit (s .regs)) s) ≡ twin lit f s
-as-twin lit f s e = ap (λ (b : Bool). withFlags (flags (f .pen) (f .vb) b) (withRegs (relit lit (s .regs)) s)) (sym e)
+as-twin : (lit : Bool) (f : Flags) (s : State) → (f .ready || s .flags .ready) ≡ f .ready → twin lit f s ≡ beside lit f s
+as-twin lit f s e = ap (λ (b : Bool). beside lit (withReady b f) s) e
 
--- the flags with ready high besides where asked
-abbrev pub withReady : Bool → Flags → Flags
-withReady b f = flags (f .pen) (f .vb) (f .ready || b)
-
-or-absorb : (a b c : Bool) → (a || c) ≡ a → (a || b || c) ≡ (a || b)
-or-absorb true b c h = refl
-or-absorb false true c h = refl
-or-absorb false false c h = h
-
--- flag ready, once high, is high at the end of a list
-stays-raised : (s : Gdp) (its : List Item) → Calm s
+-- flag ready, once high, is high at the end of a list: a state is its own twin
+stays-raised : (s : State) (its : List Item) → Calm s
     → (s .flags .ready || (doneAll s its) .flags .ready) ≡ (doneAll s its) .flags .ready
 stays-raised s its c =
-    ap (λ (t : Gdp). t .flags .ready)
-    (sym (twin-list (lights (s .regs)) (s .flags) s its c) ∙ ap (λ (t : Gdp). doneAll t its) (own-twin s))
+    let lit = lights (s .regs) in
+    let self = as-twin lit (s .flags) s (or-self (s .flags .ready)) ∙ own (s .flags) s refl in
+    ap (λ (t : State). t .flags .ready) (sym (twin-list lit (s .flags) s its c) ∙ ap (λ (t : State). doneAll t its) self)
 
--- the second run is that of a twin: state s₂ and picture p₂
-pub record Again (lit : Bool) (f : Flags) (s : Gdp) (tab : List ℕ) (its : List Item)
-    (s₁ : Gdp) (p₁ : List ℕ) (s₂ : Gdp) (p₂ : List ℕ) : Type 0 where
-  pub state : s₂ ≡ twin lit f s₁
-  pub picture : p₂ ≡ paint lit (listDots s tab its) p₁
+-- what is high wherever b is, and b wherever a is, is high wherever a is
+raises : (r a b : Bool) → (r || b) ≡ r → (a || b) ≡ b → (r || a) ≡ r
+raises true a b e m = refl
+raises false true b e m = m ∙ e
+raises false false b e m = refl
 
--- the twin can be played wherever the state can
-twin-fits : (lit : Bool) (f : Flags) {s : Gdp} {p q tab : List ℕ} → Fit s p tab → length q ≡ length p → Fit (twin lit f s) q tab
-twin-fits lit f {s} h e =
-    record { good = twin-good lit f s (calm h); idle = h .idle; picture = e ∙ h .picture; table = h .table }
+-- a card once a list is played and played again, the second time with the pen or the eraser and with flag ready as asked
+abbrev pub againBy : Bool → Bool → List Item → Card → Card
+againBy lit r its c =
+    let t = doneAll (c .state) its in
+    withDots (beside lit (withReady r (t .flags)) t) lit (listDots (c .state) (c .tables) its) (leftBy its c)
 
-module _ {s s₁ : Gdp} {p p₁ tab : List ℕ} {its : List Item} (h : Fit s p tab) (first : Plays tab s p its s₁ p₁) where
-  -- a second run from the twin of the start
-  again : (lit : Bool) (f : Flags) {t s₂ : Gdp} {p₂ : List ℕ} → t ≡ twin lit f s → Plays tab t p₁ its s₂ p₂
-      → Again lit f s tab its s₁ p₁ s₂ p₂
+module _ (c : Card) (its : List Item) (h : Fit c) where
+  abbrev s : State
+  s = c .state
+
+  abbrev t : State
+  t = doneAll (c .state) its
+
+  -- a second run from beside the start
+  again : (lit r : Bool) → (r || t .flags .ready) ≡ r → {d c₂ : Card}
+      → d ≡ withState (beside lit (withReady r (t .flags)) s) (leftBy its c) → Plays d its c₂ → c₂ ≡ againBy lit r its c
   unfolding lights
-  again lit f {t} {s₂} {p₂} e second =
-      let one = played h first in
-      let long = ap length (one .picture) ∙ paint-length (lights (s .regs)) (listDots s tab its) p in
-      let fits = twin-fits lit f h long in
-      let two = played fits (subst (λ (t : Gdp). Plays tab t p₁ its s₂ p₂) e second) in
-      record {
-        state = two .state ∙ twin-list lit f s its (calm h) ∙ ap (twin lit f) (sym (one .state));
-        picture = two .picture ∙ rw (bit-same lit 1 (s .regs .ctrl1), twin-dots-list lit f s tab its (calm h));
-      }
+  again lit r e {d} {c₂} starts second =
+      let f = withReady r (t .flags) in
+      let k : Calm (twin lit f s) = beside-calm lit _ (calm h) in
+      let ds = listDots s (c .tables) its in
+      let long = paint-length (lights (s .regs)) ds (c .memory .picture) ∙ h .picture in
+      let fits : Fit (withState (twin lit f s) (leftBy its c)) =
+      record { good = k .good; idle = k .idle; picture = long; table = h .table } in
+      let first = as-twin lit f s (raises r (s .flags .ready) (t .flags .ready) e (stays-raised s its (calm h))) in
+      let last = twin-list lit f s its (calm h) ∙ as-twin lit f t e in
+      leaves fits (subst (λ (x : Card). Plays x its c₂) (starts ∙ ap (λ (u : State). withState u (leftBy its c)) (sym first)) second)
+      ∙ (λ j. withDots (last j) (bit-same lit 1 (s .regs .ctrl1) j) (twin-dots-list lit f s (c .tables) its (calm h) j) (leftBy its c))
 
   -- the registers put back, all but the flags is as at the start
-  start-again : putBack s s₁ ≡ withFlags (s₁ .flags) s
-  start-again =
-      let e = played h first .state in
-      restarts s s₁ (calm h) (subst Calm (sym e) (list-calm s its (calm h))) (ap frame e ∙ list-frame s its)
+  abbrev restarted : Card
+  restarted = withState (withFlags (t .flags) s) (leftBy its c)
 
-  -- which no call refuses with 1, and whose ready flag the end of the first run has too
-  start-calm : Calm (withFlags (s₁ .flags) s)
-  start-calm = record { good = good-to (withFlags (s₁ .flags) s) (flags-put (s₁ .flags) (good-from s (h .good))); idle = h .idle }
+  start-again : played (leftBy its c) (backTo s) ≡ restarted
+  start-again = restarts s (leftBy its c) (calm h) (list-calm s its (calm h)) (list-frame s its (calm h))
 
-  raised : (s₁ .flags .ready || s .flags .ready) ≡ s₁ .flags .ready
-  raised = rw (played h first .state) (or-comm ((doneAll s its) .flags .ready) (s .flags .ready) ∙ stays-raised s its (calm h))
+  -- and the processor is calm
+  start-calm : Calm (restarted .state)
+  start-calm = subst Calm (own (t .flags) s refl) (beside-calm (lights (s .regs)) (t .flags) (calm h))
 
   -- with the same pen or eraser
-  pub as-it-was : {s₂ : Gdp} {p₂ : List ℕ} → Plays tab (putBack s s₁) p₁ its s₂ p₂
-      → Again (lights (s .regs)) (s₁ .flags) s tab its s₁ p₁ s₂ p₂
-  unfolding lights
+  pub as-it-was : {c₂ : Card} → Plays (played (leftBy its c) (backTo s)) its c₂
+      → c₂ ≡ againBy (lights (s .regs)) (t .flags .ready) its c
   as-it-was =
-      let c = s .regs .ctrl1 in
-      let same = sym (bit-keep (bitAt 1 c) 1 c refl) in
-      again (lights (s .regs)) (s₁ .flags)
-      (start-again
-      ∙ ap (λ (n : ℕ). withFlags (s₁ .flags) (withRegs (withCtrl1 n (s .regs)) s)) same
-      ∙ as-twin (lights (s .regs)) (s₁ .flags) s raised)
+      again (lights (s .regs)) (t .flags .ready) (or-self (t .flags .ready))
+      (start-again ∙ ap (λ (u : State). withState u (leftBy its c)) (sym (own (t .flags) s refl)))
 
   -- with the eraser, taken by a write
-  pub by-write : {s₂ : Gdp} {p₂ : List ℕ} → Plays tab (eraserByWrite (putBack s s₁)) p₁ its s₂ p₂
-      → Again false (s₁ .flags) s tab its s₁ p₁ s₂ p₂
+  pub by-write : {c₂ : Card} → Plays (played (leftBy its c) (backTo s ++ eraserByWrite s)) its c₂
+      → c₂ ≡ againBy false (t .flags .ready) its c
+  unfolding played backTo eraserByWrite
   by-write =
-      again false (s₁ .flags)
-      (ap eraserByWrite start-again
-      ∙ erases-by-write (withFlags (s₁ .flags) s) start-calm
-      ∙ as-twin false (s₁ .flags) s raised)
+      again false (t .flags .ready) (or-self (t .flags .ready))
+      (ap (λ (d : Card). played d (eraserByWrite s)) start-again ∙ erases-by-write restarted start-calm)
 
   -- with the eraser, taken by command 01: ready rises where CTRL1 bit 6 is high
-  pub by-command : {s₂ : Gdp} {p₂ : List ℕ} → Plays tab (eraserByCommand (putBack s s₁)) p₁ its s₂ p₂
-      → Again false (withReady (bitAt 6 (s .regs .ctrl1)) (s₁ .flags)) s tab its s₁ p₁ s₂ p₂
-  unfolding readyRaises
+  pub by-command : {c₂ : Card} → Plays (played (leftBy its c) (backTo s ++ eraserByCommand)) its c₂
+      → c₂ ≡ againBy false (t .flags .ready || bitAt 6 (s .regs .ctrl1)) its c
+  unfolding played backTo readyRaises
   by-command =
-      let a = s₁ .flags .ready in
+      let a = t .flags .ready in
       let b = bitAt 6 (s .regs .ctrl1) in
-      let same = bit-other false 1 6 (s .regs .ctrl1) (omega arith) in
-      again false (withReady b (s₁ .flags))
-      (ap eraserByCommand start-again
-      ∙ erases-by-command (withFlags (s₁ .flags) s) start-calm
-      ∙ ap (λ (x : Bool). withFlags (withReady x (s₁ .flags)) (withRegs (relit false (s .regs)) s)) same
-      ∙ as-twin false (withReady b (s₁ .flags)) s (or-absorb a b (s .flags .ready) raised))
+      again false (a || b) (or-comm (a || b) a ∙ or-self-left a b)
+      (ap (λ (d : Card). played d eraserByCommand) start-again
+      ∙ erases-by-command restarted start-calm
+      ∙ ap (λ (x : Bool). withState (beside false (withReady (a || x) (t .flags)) s) (leftBy its c))
+      (bit-other false 1 6 (s .regs .ctrl1) (omega arith)))

@@ -1,66 +1,65 @@
 -- A list played by the calls: where it ends and what it paints, however its cycles were split.
 -- Assumes nothing.
 use mathlib.Core.Path.{_≡_, refl, sym, ap, _∙_}
-use mathlib.Core.List.{List}
+use mathlib.Core.List.{List, map}
 use Prim.Native.Nat.{ℕ, _≤_}
-use Rattle.picture.specs.Dot.{paint}
-use Rattle.picture.proofs.Dots.{paint-append, paint-length}
+use Rattle.picture.proofs.Laws.{paint-append, paint-length}
 use Rattle.parts.specs.Format.{bytes}
-use Rattle.gdp.specs.declared.state.Gdp.{Gdp}
-use Rattle.gdp.specs.Cycles.{lights, left}
+use Rattle.rules.specs.State.{State}
+use Rattle.rules.specs.Cycles.{lights, left}
+use Rattle.rules.specs.Calls.{memory}
+use Rattle.rules.specs.Card.{Card, T, outcomeOf, next, played}
 use Rattle.lists.specs.Item.{Item}
-use Rattle.lists.specs.Play.{Fit, wrote, ranState, ranPicture, total, Plays, end, item, done, itemDots, doneAll, listDots}
-use Rattle.lists.proofs.Splits.{split-free}
-use Rattle.lists.proofs.Items.{Calm, frame, wrote-frame, done-frame, wrote-good, done-calm}
+use Rattle.lists.specs.Play.{Fit, wrote, total, Plays, end, item, taking, done, itemDots, doneAll, listDots}
+use Rattle.lists.proofs.Splits.{withDots, split-free}
+use Rattle.lists.proofs.Items.{Calm, frame, taking-frame, taking-good, done-frame, done-calm}
 
 -- what can be played is calm
-pub calm : {s : Gdp} {p tab : List ℕ} → Fit s p tab → Calm s
+pub calm : {c : Card} → Fit c → Calm (c .state)
 calm f = record { good = f .good; idle = f .idle }
 
 -- the format and the pen stay with the frame
-format-of : (s t : Gdp) → frame t ≡ frame s → t .format ≡ s .format
-format-of s t e = ap (λ (g : Gdp). g .format) e
+format-of : (s t : State) → frame t ≡ frame s → t .format ≡ s .format
+format-of s t e = ap (λ (u : State). u .format) e
 
-lights-of : (s t : Gdp) → frame t ≡ frame s → lights (t .regs) ≡ lights (s .regs)
+lights-of : (s t : State) → frame t ≡ frame s → lights (t .regs) ≡ lights (s .regs)
 unfolding lights
-lights-of s t e = ap (λ (g : Gdp). lights (g .regs)) e
-
--- state t and picture q are what the items leave
-pub record Left (s : Gdp) (tab p : List ℕ) (its : List Item) (t : Gdp) (q : List ℕ) : Type 0 where
-  pub state : t ≡ doneAll s its
-  pub picture : q ≡ paint (lights (s .regs)) (listDots s tab its) p
+lights-of s t e = ap (λ (u : State). lights (u .regs)) e
 
 -- one item: what it leaves, and that the next can be played there
-module _ {s : Gdp} {p tab : List ℕ} (f : Fit s p tab) (it : Item) (ns : List ℕ) (h : left (wrote s it) ≤ total ns) where
-  ran : (ranState (wrote s it) tab ns p ≡ done s it)
-      × (ranPicture (wrote s it) tab ns p ≡ paint (lights (s .regs)) (itemDots s tab it) p)
-  unfolding done itemDots
+module _ {c : Card} (f : Fit c) (it : Item) (ns : List ℕ) (h : left (wrote c it .state) ≤ total ns) where
+  abbrev s : State
+  s = c .state
+
+  ran : played (wrote c it) (map T ns) ≡ withDots (done s it) (lights (s .regs)) (itemDots s (c .tables) it) c
+  unfolding wrote next outcomeOf taking done itemDots
   ran =
-      let w = wrote s it in
-      let e = wrote-frame s it in
+      let w = taking s it in
+      let e = taking-frame s it (calm f) in
       let long = f .picture ∙ ap bytes (sym (format-of s w e)) in
-      let out = split-free w tab ns p (wrote-good s it (f .good)) long (f .table) h in
-      (out .state, out .picture ∙ rw (lights-of s w e))
+      split-free (wrote c it) ns (taking-good s it (calm f)) long (f .table) h
+      ∙ rw (lights-of s w e)
 
-  fits : Fit (ranState (wrote s it) tab ns p) (ranPicture (wrote s it) tab ns p) tab
+  fits : Fit (played (wrote c it) (map T ns))
   fits =
-      let c = done-calm s it (calm f) in
-      let same = format-of s (done s it) (done-frame s it) in
-      let long = paint-length (lights (s .regs)) (itemDots s tab it) p ∙ f .picture ∙ ap bytes (sym same) in
-      rw (ran .0, ran .1) (record { good = c .good; idle = c .idle; picture = long; table = f .table })
+      let d = done-calm s it (calm f) in
+      let same = format-of s (done s it) (done-frame s it (calm f)) in
+      let long = paint-length (lights (s .regs)) (itemDots s (c .tables) it) (c .memory .picture) ∙ f .picture ∙ ap bytes (sym same) in
+      rw ran (record { good = d .good; idle = d .idle; picture = long; table = f .table })
 
--- a list ends in the state that its items lead to, and its picture is painted with its dots
-pub played : {s t : Gdp} {p q tab : List ℕ} {its : List Item} → Fit s p tab → Plays tab s p its t q → Left s tab p its t q
+-- a card after a list: the state that its items lead to, and the picture painted with its dots
+abbrev pub leftBy : List Item → Card → Card
+leftBy its c = withDots (doneAll (c .state) its) (lights (c .state .regs)) (listDots (c .state) (c .tables) its) c
+
+-- a list that is played leaves that card
+pub leaves : {c d : Card} {its : List Item} → Fit c → Plays c its d → d ≡ leftBy its c
 unfolding doneAll listDots
-played f end = record { state = refl; picture = refl }
-played {tab = tab} f (item {s = s} {p = p} it its ns h rest) =
-    let one = ran f it ns h in
-    let more = played (fits f it ns h) rest in
+leaves f end = refl
+leaves f (item {c = c} it its ns h rest) =
+    let s = c .state in
     let lit = lights (s .regs) in
-    record {
-      state = more .state ∙ ap (λ (t : Gdp). doneAll t its) (one .0);
-      picture =
-          more .picture
-          ∙ rw (one .0, one .1, lights-of s (done s it) (done-frame s it))
-          (sym (paint-append lit (itemDots s tab it) (listDots (done s it) tab its) p));
-    }
+    let more = listDots (done s it) (c .tables) its in
+    leaves (fits f it ns h) rest
+    ∙ ap (leftBy its) (ran f it ns h)
+    ∙ ap (λ (p : List ℕ). record { state = doneAll (done s it) its; memory = memory p; tables = c .tables })
+    (rw (lights-of s (done s it) (done-frame s it (calm f))) (sym (paint-append lit (itemDots s (c .tables) it) more (c .memory .picture))))

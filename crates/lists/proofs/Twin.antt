@@ -2,217 +2,177 @@
 -- flags takes the same items, writes the same dots, and stays the twin.
 -- Assumes nothing.
 use mathlib.Core.Path.{_≡_, refl, sym, ap, ap₂, _∙_}
-use mathlib.Core.Bool.{Bool, true, false, cond, _||_, _&&_, or-assoc}
+use mathlib.Core.Bool.{Bool, true, false, cond, _||_, or-assoc}
 use mathlib.Core.List.{List, [], _∷_, _++_}
-use Prim.Native.Nat.{ℕ, _+_, _-_, min, _^_, _<_}
+use Prim.Native.Nat.{ℕ, _+_, _-_, min}
 use native.Mathlib.Omega.{arith}
 use lib.Dec.{eqb, ltb}
+use Rattle.basis.proofs.Cases.{cond-ap}
 use Rattle.picture.specs.Bit.{bitAt, withBit}
-use Rattle.picture.specs.Screen.{place}
-use Rattle.picture.proofs.Bits.{bit-other, bit-fits}
-use Rattle.picture.proofs.Dots.{gathered-same}
-use Rattle.motion.specs.Position.{ahead, behind}
+use Rattle.picture.proofs.Laws.{bit-other, bit-keep}
+use Rattle.motion.specs.declared.position.Spot.{Spot}
 use Rattle.parts.specs.declared.format.Format.{Format}
-use Rattle.parts.specs.declared.sequence.Work.{Work}
-use Rattle.parts.specs.declared.sequence.Work.the-variants.{Idle, Steps, Clear}
-use Rattle.parts.specs.declared.command.Kind.{Kind}
-use Rattle.parts.specs.declared.command.Kind.the-variants.{NoCycle, OneCycle, Vector, Character, Block}
-use Rattle.parts.specs.Format.{width, height}
+use Rattle.parts.specs.Format.{window}
 use Rattle.parts.specs.Command.{kind}
-use Rattle.parts.specs.Sequence.{ready}
-use Rattle.gdp.specs.declared.state.Regs.{Regs}
-use Rattle.gdp.specs.declared.state.Flags.{Flags}
-use Rattle.gdp.specs.declared.state.Gdp.{Gdp}
-use Rattle.gdp.specs.State.{flags, withCtrl1, withPlace, withRegs, withWork, withFlags, readyRaises}
-use Rattle.gdp.specs.Registers.{stored}
-use Rattle.gdp.specs.Figure.{line, character, block, turned, tilted, cyclesOf, cycles, wayX, wayY, endX, endY, writes}
-use Rattle.gdp.specs.Cycles.{startX, startY, placeX, placeY, penDown, cyclic, dotOf, dotsFrom}
-use Rattle.gdp.specs.Cycles.{leftOf, left, dotsOf, dots, standing, ended, afterOf, after}
-use Rattle.gdp.specs.Commands.{commanded, clearing, prompt, begunOf, begun, afterWrite}
-use Rattle.gdp.specs.Refusals.{bad, busy, tiltedCharacter, writeNumber}
-use Rattle.gdp.specs.Calls.{answer, written}
-use Rattle.gdp.specs.Good.{GoodWork}
-use Rattle.gdp.proofs.GoodParts.{good-from, good-to, ready-work}
+use Rattle.drawing.specs.Figure.{Figure, cyclesOf}
+use Rattle.drawing.specs.Run.{startOf, restOf, mark, dotOf, dotsFrom}
+use Rattle.rules.specs.Sequence.{Work, Idle, Steps, Clear, ready}
+use Rattle.rules.specs.State.{Regs, Flags, State, flags, withCtrl1, withPlace, withRegs, withWork, withFlags, readyRaises}
+use Rattle.rules.specs.Registers.{stored}
+use Rattle.rules.specs.Figure.{Tables, tilted, figure, cycles, glyph}
+use Rattle.rules.specs.Cycles.{penDown, lights, cyclic, tip, here, start, leftOf, left, dotsOf, dots, rested, afterOf, after}
+use Rattle.rules.specs.Commands.{commanded, clearing, prompt, begun, afterWrite}
+use Rattle.rules.specs.Refusals.{busy, tiltedCharacter, writeNumber}
+use Rattle.rules.specs.Calls.{answer, written}
+use Rattle.rules.specs.Working.Good.{GoodRegs}
+use Rattle.rules.proofs.Laws.{figure-kept, good-from, good-to, commanded-good, ready-work, regs-put, flags-put}
 use Rattle.lists.specs.Item.{Item, address, value}
-use Rattle.lists.specs.Play.{wrote, done, itemDots, doneAll, listDots}
-use Rattle.lists.proofs.Items.{drawn-begun, each, taking, Calm, done-calm}
+use Rattle.lists.specs.Play.{taking, done, itemDots, doneAll, listDots}
+use Rattle.lists.proofs.Items.{drawn-begun, each, Calm, done-calm}
 
 -- the registers with CTRL1 bit 1 made as asked, all else as it was
 abbrev pub relit : Bool → Regs → Regs
 relit lit r = withCtrl1 (withBit lit 1 (r .ctrl1)) r
 
--- the twin: that bit made as asked, flags pen and vb of its own, and flag ready high besides where its own is
-abbrev pub twin : Bool → Flags → Gdp → Gdp
-twin lit f s = withFlags (flags (f .pen) (f .vb) (f .ready || s .flags .ready)) (withRegs (relit lit (s .regs)) s)
+-- the state with that bit and with flags of its own
+abbrev pub beside : Bool → Flags → State → State
+beside lit f s = withFlags f (withRegs (relit lit (s .regs)) s)
 
--- a command's figure: cycles, way, end, and which cycles write
-unfoldable figure : Regs → List ℕ → ℕ → Kind → ℕ × (ℕ → ℕ) × (ℕ → ℕ) × ℕ × ℕ × (ℕ → Bool)
-figure r tab c k = (cyclesOf r c k, (λ i. wayX r c i k), (λ i. wayY r c i k), endX r c k, endY r c k, (λ i. writes r tab c i k))
+-- with the bit that it has, all but the flags is as it was
+pub own : {lit : Bool} (f : Flags) (s : State) → lights (s .regs) ≡ lit → beside lit f s ≡ withFlags f s
+unfolding lights
+own {lit} f s e = ap (λ (n : ℕ). withFlags f (withRegs (withCtrl1 n (s .regs)) s)) (bit-keep lit 1 (s .regs .ctrl1) e)
 
--- CTRL1 has no part in it
-figure-blind : (v : ℕ) (r : Regs) (tab : List ℕ) (c : ℕ) (k : Kind) → figure (withCtrl1 v r) tab c k ≡ figure r tab c k
-unfolding figure cyclesOf wayX wayY endX endY writes line character block turned
-figure-blind v r tab c Vector = refl
-figure-blind v r tab c Character = refl
-figure-blind v r tab c Block = refl
-figure-blind v r tab c OneCycle = refl
-figure-blind v r tab c NoCycle = refl
+-- commands 00 and 01 make the bit too, so no call refuses such registers with 1 where it did not refuse the others
+pub relit-good : (lit : Bool) (r : Regs) → GoodRegs r → GoodRegs (relit lit r)
+unfolding commanded
+relit-good true r = commanded-good r 0x00
+relit-good false r = commanded-good r 0x01
 
-module _ (lit : Bool) (r : Regs) (tab : List ℕ) (c : ℕ) where
-  same : figure (relit lit r) tab c (kind c) ≡ figure r tab c (kind c)
-  same = figure-blind (withBit lit 1 (r .ctrl1)) r tab c (kind c)
+-- so it is calm where the state is
+pub beside-calm : (lit : Bool) (f : Flags) {s : State} → Calm s → Calm (beside lit f s)
+beside-calm lit f {s} c =
+    let g = good-from s (c .good) in
+    let w = ready-work (relit lit (s .regs)) (s .vb) (s .work) (ap ready (c .idle)) in
+    record { good = good-to (beside lit f s) (flags-put f (regs-put g (relit-good lit (s .regs) (g .regs)) w)); idle = c .idle }
 
-  cycles-blind : cycles (relit lit r) c ≡ cycles r c
-  unfolding figure cycles
-  cycles-blind = λ j. (same j) .0
-
-  placeX-blind : (p i : ℕ) → placeX (relit lit r) c p i ≡ placeX r c p i
-  unfolding figure startX placeX
-  placeX-blind p i = λ j. ahead (behind (r .x) ((same j) .1 p)) ((same j) .1 i)
-
-  placeY-blind : (p i : ℕ) → placeY (relit lit r) c p i ≡ placeY r c p i
-  unfolding figure startY placeY
-  placeY-blind p i = λ j. ahead (behind (r .y) ((same j) .2 p)) ((same j) .2 i)
-
-  endX-blind : (p : ℕ) → ahead (startX (relit lit r) c p) (endX (relit lit r) c (kind c)) ≡ ahead (startX r c p) (endX r c (kind c))
-  unfolding figure startX
-  endX-blind p = λ j. ahead (behind (r .x) ((same j) .1 p)) ((same j) .3)
-
-  endY-blind : (p : ℕ) → ahead (startY (relit lit r) c p) (endY (relit lit r) c (kind c)) ≡ ahead (startY r c p) (endY r c (kind c))
-  unfolding figure startY
-  endY-blind p = λ j. ahead (behind (r .y) ((same j) .2 p)) ((same j) .4)
-
-  -- nor does CTRL1 bit 1 in the dots: bit 0 says whether they are written, bit 3 how the screen ends
-  dot-blind : (f : Format) (p i : ℕ) → dotOf f (relit lit r) tab c p i ≡ dotOf f r tab c p i
-  unfolding figure dotOf penDown cyclic
-  dot-blind f p i =
-      let down = bit-other lit 1 0 (r .ctrl1) (omega arith) in
-      let wraps = bit-other lit 1 3 (r .ctrl1) (omega arith) in
-      λ j.
-      cond (down j && (same j) .5 i)
-      (place (wraps j) (width f) (height f) (placeX-blind p i j) (placeY-blind p i j))
-      []
-
-  dots-from-blind : (f : Format) (p i k : ℕ) → dotsFrom f (relit lit r) tab c p i k ≡ dotsFrom f r tab c p i k
-  unfolding dotsFrom
-  dots-from-blind f p i k = gathered-same (dotOf f (relit lit r) tab c p) (dotOf f r tab c p) i k (λ j _ _. dot-blind f p j)
+-- the twin: flag ready is high besides where the state has it
+abbrev pub twin : Bool → Flags → State → State
+twin lit f s = beside lit (flags (f .lightPen) (f .vb) (f .ready || s .flags .ready)) s
 
 -- a state and its twin
 module _ (lit : Bool) (f : Flags) where
+  -- CTRL1 has no part in a command's figure
+  same-figure : (r : Regs) (c : ℕ) → figure (relit lit r) c ≡ figure r c
+  same-figure r c = figure-kept r (withBit lit 1 (r .ctrl1)) (r .x) (r .y) (r .xlp) (r .ylp) c
+
+  -- nor has its bit 1 in the dots: bit 0 says whether they are written, bit 3 how the screen ends
+  tip-blind : (g : Format) (r : Regs) (a : Figure) (gl : List ℕ) (at : Spot) (i k : ℕ)
+      → dotsFrom (tip g (relit lit r)) a gl at i k ≡ dotsFrom (tip g r) a gl at i k
+  unfolding dotsFrom dotOf mark tip penDown cyclic
+  tip-blind g r a gl at i k =
+      let down = bit-other lit 1 0 (r .ctrl1) (omega arith) in
+      let wraps = bit-other lit 1 3 (r .ctrl1) (omega arith) in
+      λ j. dotsFrom (record { window = window g (wraps j); down = down j; lit = lit }) a gl at i k
+
   -- ready rises in both: bit 6 of CTRL1 is the same
-  twin-raises : (s : Gdp) → readyRaises (twin lit f s) ≡ twin lit f (readyRaises s)
+  twin-raises : (s : State) → readyRaises (twin lit f s) ≡ twin lit f (readyRaises s)
   unfolding readyRaises
   twin-raises s =
       let was = s .flags .ready in
       let b = bit-other lit 1 6 (s .regs .ctrl1) (omega arith) in
-      ap (λ (b : Bool). withFlags (flags (f .pen) (f .vb) b) (twin lit f s))
+      ap (λ (b : Bool). beside lit (flags (f .lightPen) (f .vb) b) s)
       (ap (λ (b : Bool). f .ready || was || b) b ∙ or-assoc (f .ready) was (bitAt 6 (s .regs .ctrl1)))
 
   -- as many cycles are left
   left-work : (r : Regs) (w : Work) → leftOf (relit lit r) w ≡ leftOf r w
-  unfolding leftOf
+  unfolding leftOf cycles
   left-work r Idle = refl
-  left-work r (Steps c p) = ap (λ (m : ℕ). m - p) (cycles-blind lit r [] c)
+  left-work r (Steps c p) = ap (λ (a : Figure). cyclesOf a - p) (same-figure r c)
   left-work r (Clear g o) = refl
 
-  twin-left : (s : Gdp) → left (twin lit f s) ≡ left s
+  twin-left : (s : State) → left (twin lit f s) ≡ left s
   unfolding left
   twin-left s = left-work (s .regs) (s .work)
 
   -- cycles write the same dots
-  dots-work : (g : Format) (r : Regs) (tab : List ℕ) (n : ℕ) (w : Work) → dotsOf g (relit lit r) tab n w ≡ dotsOf g r tab n w
-  unfolding dotsOf
-  dots-work g r tab n Idle = refl
-  dots-work g r tab n (Steps c p) =
-      dots-from-blind lit r tab c g p p (min n (cycles (relit lit r) c - p))
-      ∙ ap (λ (m : ℕ). dotsFrom g r tab c p p (min n (m - p))) (cycles-blind lit r tab c)
-  dots-work g r tab n (Clear h o) = refl
+  dots-work : (g : Format) (r : Regs) (t : Tables) (n : ℕ) (w : Work) → dotsOf g (relit lit r) t n w ≡ dotsOf g r t n w
+  unfolding dotsOf start cycles
+  dots-work g r t n Idle = refl
+  dots-work g r t n (Steps c p) =
+      ap (λ (a : Figure). dotsFrom (tip g (relit lit r)) a (glyph t c) (startOf a p (here r)) p (min n (cyclesOf a - p))) (same-figure r c)
+      ∙ tip-blind g r (figure r c) (glyph t c) (start r c p) p (min n (cycles r c - p))
+  dots-work g r t n (Clear h o) = refl
 
-  twin-dots : (s : Gdp) (tab : List ℕ) (n : ℕ) → dots (twin lit f s) tab n ≡ dots s tab n
+  twin-dots : (s : State) (t : Tables) (n : ℕ) → dots (twin lit f s) t n ≡ dots s t n
   unfolding dots
-  twin-dots s tab n = dots-work (s .format) (s .regs) tab n (s .work)
+  twin-dots s t n = dots-work (s .format) (s .regs) t n (s .work)
 
   -- and leave the twin
-  both : (b : Bool) (x y : Gdp) → cond b (twin lit f x) (twin lit f y) ≡ twin lit f (cond b x y)
-  both true x y = refl
-  both false x y = refl
+  twin-rested : (s : State) (c p i : ℕ) → rested (twin lit f s) c p i ≡ twin lit f (rested s c p i)
+  unfolding rested start
+  twin-rested s c p i =
+      ap (λ (a : Figure). withRegs (withPlace (restOf a (startOf a p (here (s .regs))) i) (relit lit (s .regs))) (twin lit f s))
+      (same-figure (s .regs) c)
 
-  twin-standing : (s : Gdp) (c p i : ℕ) → standing (twin lit f s) c p i ≡ twin lit f (standing s c p i)
-  unfolding standing
-  twin-standing s c p i =
-      ap₂ (λ (x y : ℕ). withWork (Steps c i) (withRegs (withPlace x y (relit lit (s .regs))) (twin lit f s)))
-      (placeX-blind lit (s .regs) [] c p i) (placeY-blind lit (s .regs) [] c p i)
-
-  twin-ended : (s : Gdp) (c p : ℕ) → ended (twin lit f s) c p ≡ twin lit f (ended s c p)
-  unfolding ended
-  twin-ended s c p =
-      ap₂ (λ (x y : ℕ). readyRaises (withWork Idle (withRegs (withPlace x y (relit lit (s .regs))) (twin lit f s))))
-      (endX-blind lit (s .regs) [] c p) (endY-blind lit (s .regs) [] c p)
-      ∙ twin-raises _
-
-  after-work : (s : Gdp) (n : ℕ) (w : Work) → afterOf (twin lit f s) n w ≡ twin lit f (afterOf s n w)
-  unfolding afterOf
+  after-work : (s : State) (n : ℕ) (w : Work) → afterOf (twin lit f s) n w ≡ twin lit f (afterOf s n w)
+  unfolding afterOf cycles
   after-work s n Idle = refl
   after-work s n (Steps c p) =
-      (λ j. cond (ltb (p + n) (cycles-blind lit (s .regs) [] c j)) (twin-standing s c p (p + n) j) (twin-ended s c p j))
-      ∙ both (ltb (p + n) (cycles (s .regs) c)) (standing s c p (p + n)) (ended s c p)
+      let i = p + n in
+      let standing = withWork (Steps c i) (rested s c p i) in
+      let idle = withWork Idle (rested s c p i) in
+      (λ j. cond (ltb i (cyclesOf (same-figure (s .regs) c j)))
+      (withWork (Steps c i) (twin-rested s c p i j))
+      (readyRaises (withWork Idle (twin-rested s c p i j))))
+      ∙ ap (cond (ltb i (cycles (s .regs) c)) (twin lit f standing)) (twin-raises idle)
+      ∙ cond-ap (twin lit f) (ltb i (cycles (s .regs) c)) standing (readyRaises idle)
   after-work s n (Clear g o) = refl
 
-  twin-after : (s : Gdp) (n : ℕ) → after (twin lit f s) n ≡ twin lit f (after s n)
+  twin-after : (s : State) (n : ℕ) → after (twin lit f s) n ≡ twin lit f (after s n)
   unfolding after
   twin-after s n = after-work s n (s .work)
 
-  -- an item does the same to both
-  twin-taking : (s : Gdp) (it : Item) → taking (twin lit f s) it ≡ twin lit f (taking s it)
-  unfolding taking afterWrite stored kind begun begunOf commanded prompt clearing
-  twin-taking s =
+  -- an item that is accepted does the same to both
+  twin-accepted : (s : State) (it : Item)
+      → afterWrite (twin lit f s) (address it) (value it) ≡ twin lit f (afterWrite s (address it) (value it))
+  unfolding afterWrite stored kind begun commanded prompt clearing
+  twin-accepted s =
       each (λ a v. afterWrite (twin lit f s) a v ≡ twin lit f (afterWrite s a v))
       (λ _. refl) (λ _. refl) (λ _. refl) (λ _. refl) (λ _. refl) (λ _. refl) (λ _. refl) (λ _. refl)
       (twin-raises _) (twin-raises _) (twin-raises _)
-      (λ c d. drawn-begun (twin lit f s) c (kind c) d ∙ ap (twin lit f) (sym (drawn-begun s c (kind c) d)))
+      (λ c d. drawn-begun (twin lit f s) c d ∙ ap (twin lit f) (sym (drawn-begun s c d)))
 
-  -- and is refused in both or in neither
-  pub twin-good : (s : Gdp) → Calm s → bad (twin lit f s) ≡ false
-  twin-good s c =
-      let g = good-from s (c .good) in
-      let w : GoodWork (relit lit (s .regs)) (s .vb) (s .work) = ready-work _ (s .vb) (s .work) (ap ready (c .idle)) in
-      let fits : withBit lit 1 (s .regs .ctrl1) < 2 ^ 7 = bit-fits lit 7 1 (s .regs .ctrl1) (omega arith) (omega (arith, g .regs .ctrl1)) in
-      good-to (twin lit f s)
-      (record {
-        regs = record { x = g .regs .x; y = g .regs .y; ctrl1 = omega arith; ctrl2 = g .regs .ctrl2; xlp = g .regs .xlp };
-        work = w;
-        pen = g .pen;
-      })
-
-  twin-number : (s : Gdp) (a v : ℕ) → Calm s → writeNumber (twin lit f s) a v ≡ writeNumber s a v
+  -- and it is refused in both or in neither
+  twin-number : (s : State) (a v : ℕ) → Calm s → writeNumber (twin lit f s) a v ≡ writeNumber s a v
   unfolding writeNumber busy tiltedCharacter tilted
-  twin-number s a v c = rw (twin-good s c, c .good)
+  twin-number s a v c = rw (beside-calm lit _ c .good, c .good)
 
-  twin-wrote : (s : Gdp) (it : Item) → Calm s → wrote (twin lit f s) it ≡ twin lit f (wrote s it)
-  unfolding wrote written answer taking
-  twin-wrote s it c =
+  twin-taking : (s : State) (it : Item) → Calm s → taking (twin lit f s) it ≡ twin lit f (taking s it)
+  unfolding taking written answer
+  twin-taking s it c =
       let n = twin-number s (address it) (value it) c in
-      (λ j. cond (eqb (n j) 0) (twin-taking s it j) (twin lit f s))
-      ∙ both (eqb (writeNumber s (address it) (value it)) 0) (taking s it) s
+      (λ j. cond (eqb (n j) 0) (twin-accepted s it j) (twin lit f s))
+      ∙ cond-ap (twin lit f) (eqb (writeNumber s (address it) (value it)) 0) (afterWrite s (address it) (value it)) s
 
   -- so does an item run to its end
-  twin-done : (s : Gdp) (it : Item) → Calm s → done (twin lit f s) it ≡ twin lit f (done s it)
+  twin-done : (s : State) (it : Item) → Calm s → done (twin lit f s) it ≡ twin lit f (done s it)
   unfolding done
-  twin-done s it c = rw (twin-wrote s it c, twin-left (wrote s it)) (twin-after (wrote s it) (left (wrote s it)))
+  twin-done s it c = rw (twin-taking s it c, twin-left (taking s it)) (twin-after (taking s it) (left (taking s it)))
 
-  twin-item : (s : Gdp) (tab : List ℕ) (it : Item) → Calm s → itemDots (twin lit f s) tab it ≡ itemDots s tab it
+  twin-item : (s : State) (t : Tables) (it : Item) → Calm s → itemDots (twin lit f s) t it ≡ itemDots s t it
   unfolding itemDots
-  twin-item s tab it c = rw (twin-wrote s it c, twin-left (wrote s it)) (twin-dots (wrote s it) tab (left (wrote s it)))
+  twin-item s t it c = rw (twin-taking s it c, twin-left (taking s it)) (twin-dots (taking s it) t (left (taking s it)))
 
   -- and a list
-  pub twin-list : (s : Gdp) (its : List Item) → Calm s → doneAll (twin lit f s) its ≡ twin lit f (doneAll s its)
+  pub twin-list : (s : State) (its : List Item) → Calm s → doneAll (twin lit f s) its ≡ twin lit f (doneAll s its)
   unfolding doneAll
   twin-list s [] c = refl
-  twin-list s (it ∷ its) c = ap (λ (t : Gdp). doneAll t its) (twin-done s it c) ∙ twin-list (done s it) its (done-calm s it c)
+  twin-list s (it ∷ its) c = ap (λ (t : State). doneAll t its) (twin-done s it c) ∙ twin-list (done s it) its (done-calm s it c)
 
-  pub twin-dots-list : (s : Gdp) (tab : List ℕ) (its : List Item) → Calm s → listDots (twin lit f s) tab its ≡ listDots s tab its
+  pub twin-dots-list : (s : State) (t : Tables) (its : List Item) → Calm s → listDots (twin lit f s) t its ≡ listDots s t its
   unfolding listDots
-  twin-dots-list s tab [] c = refl
-  twin-dots-list s tab (it ∷ its) c =
-      ap₂ _++_ (twin-item s tab it c)
-      (ap (λ (t : Gdp). listDots t tab its) (twin-done s it c) ∙ twin-dots-list (done s it) tab its (done-calm s it c))
+  twin-dots-list s t [] c = refl
+  twin-dots-list s t (it ∷ its) c =
+      ap₂ _++_ (twin-item s t it c)
+      (ap (λ (u : State). listDots u t its) (twin-done s it c) ∙ twin-dots-list (done s it) t its (done-calm s it c))

@@ -6,7 +6,8 @@ use Prim.Native.Nat.{ℕ, _+_, _*_, _/_, _%_, _≤_, _<_}
 use native.Mathlib.Nat.{add-mul, one-mul}
 use native.Mathlib.Omega.{arith}
 use Rattle.motion.specs.Position.{ahead, behind}
-use Rattle.motion.specs.Character.{uOf, vOf, columnOf, rowOf, Sized, Counts, OnPlace}
+use Rattle.motion.specs.Character.{uOf, vOf, columnOf, rowOf}
+use Rattle.motion.specs.Working.Cells.{Sized, Counts, OnPlace}
 use Rattle.motion.specs.declared.character.Body.{Body}
 use Rattle.motion.specs.declared.character.Cell.{Cell}
 use Rattle.motion.proofs.Counting.{Splits, splits, whole, split-le}

@@ -10,25 +10,10 @@ use native.Mathlib.Omega.{arith}
 use lib.Arith.{digits-lt, digits-div, digits-mod}
 use lib.Dec.{eqb}
 use borrow.Author.Tests.{eqb-false}
-use Rattle.picture.proofs.Dots.{split}
+use Rattle.basis.proofs.Cases.{split}
 use Rattle.motion.specs.Position.{ahead, behind, signed}
-use Rattle.motion.specs.Character.{
-  scale,
-  scaleP,
-  scaleQ,
-  characterOf,
-  blockOf,
-  bodyCycles,
-  uOf,
-  vOf,
-  columnOf,
-  rowOf,
-  bodyX,
-  bodyY,
-  bodyEndX,
-  bodyEndY,
-  Sized,
-}
+use Rattle.motion.specs.Character.{scale, scaleP, scaleQ, characterOf, blockOf, bodyCycles, uOf, vOf, columnOf, rowOf, bodyX, bodyY, bodyEndX, bodyEndY}
+use Rattle.motion.specs.Working.Cells.{Sized}
 use Rattle.motion.specs.declared.character.Body.{Body}
 use Rattle.motion.proofs.Counting.{Splits, splits, whole, split-within, split-over}
 
@@ -43,19 +28,19 @@ scale-most n h = ⊎-elim (λ t. rw t (omega arith)) (λ t. rw t (omega arith)) 
 
 pub p-some : (csize : ℕ) → 0 < scaleP csize
 unfolding scaleP
-p-some csize = scale-some (csize / 16)
+p-some csize = scale-some _
 
 pub q-some : (csize : ℕ) → 0 < scaleQ csize
 unfolding scaleQ
-q-some csize = scale-some (csize % 16)
+q-some csize = scale-some _
 
 pub p-most : (csize : ℕ) → csize < 256 → scaleP csize ≤ 16
 unfolding scaleP
-p-most csize h = scale-most (csize / 16) (omega arith)
+p-most csize h = scale-most _ (omega arith)
 
-pub q-most : (csize : ℕ) → scaleQ csize ≤ 16
+pub q-most : (csize : ℕ) → csize < 256 → scaleQ csize ≤ 16
 unfolding scaleQ
-q-most csize = scale-most (csize % 16) (omega arith)
+q-most csize h = scale-most _ (omega arith)
 
 -- k × P by l × Q dots are k × l × P × Q, and the most is at P = Q = 16
 product : (k l p q : ℕ) → k * p * (l * q) ≡ k * l * p * q
@@ -83,18 +68,18 @@ module _ (csize : ℕ) (h : csize < 256) where
   -- its bodies are sized
   pub character-sized : Sized (characterOf csize)
   unfolding characterOf
-  character-sized = sized (characterOf csize) (p-some csize) (p-most csize h) (q-some csize) (q-most csize) (omega arith) (omega arith)
+  character-sized = sized (characterOf csize) (p-some csize) (p-most csize h) (q-some csize) (q-most csize h) (omega arith) (omega arith)
 
   pub block-sized : Sized (blockOf csize)
   unfolding blockOf
-  block-sized = sized (blockOf csize) (p-some csize) (p-most csize h) (q-some csize) (q-most csize) (omega arith) (omega arith)
+  block-sized = sized (blockOf csize) (p-some csize) (p-most csize h) (q-some csize) (q-most csize h) (omega arith) (omega arith)
 
   -- the most cycles
   pub character-most : bodyCycles (characterOf csize) ≤ 12288
-  character-most = rw character-cycles (product-most 48 (scaleP csize) (scaleQ csize) (p-most csize h) (q-most csize))
+  character-most = rw character-cycles (product-most 48 (scaleP csize) (scaleQ csize) (p-most csize h) (q-most csize h))
 
   pub block-most : bodyCycles (blockOf csize) ≤ 4096
-  block-most = rw block-cycles (product-most 16 (scaleP csize) (scaleQ csize) (p-most csize h) (q-most csize))
+  block-most = rw block-cycles (product-most 16 (scaleP csize) (scaleQ csize) (p-most csize h) (q-most csize h))
 
 module _ (b : Body) where
   -- u and v of a cycle are its quotient by the rows and its remainder

@@ -9,7 +9,8 @@ use lib.Dec.{ltb}
 use lib.ListN.{getD, getD-replicate}
 use borrow.Author.Tests.{ltb-true}
 use Rattle.picture.specs.Bit.{bitAt}
-use Rattle.picture.proofs.Dots.{split, all-ones}
+use Rattle.basis.proofs.Cases.{split}
+use Rattle.picture.proofs.Laws.{all-ones}
 use Rattle.motion.specs.Glyph.{solidGlyph, inked}
 
 -- the solid glyph has every dot of its five columns

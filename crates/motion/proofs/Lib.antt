@@ -1,8 +1,9 @@
-pub mod Positions
-pub mod Offsets
-pub mod Vectors
-pub mod LineTypes
-pub mod Counting
-pub mod Characters
-pub mod Cells
-pub mod Glyphs
+pub mod Laws
+mod Positions
+mod Offsets
+mod Vectors
+mod LineTypes
+mod Counting
+mod Characters
+mod Cells
+mod Glyphs

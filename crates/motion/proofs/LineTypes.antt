@@ -9,9 +9,10 @@ use native.Mathlib.Omega.{arith}
 use lib.Dec.{eqb, eqb→eq, leb, leb→le}
 use lib.ListN.{length, getD}
 use Rattle.picture.specs.Bit.{bitAt}
-use Rattle.picture.proofs.Screens.{power-some}
-use Rattle.picture.proofs.Table.{at, every, beq-eq}
-use Rattle.motion.specs.LineType.{period, lineOn, dashed, Repeats}
+use Rattle.picture.proofs.Laws.{power-some}
+use Rattle.basis.proofs.Table.{at, every, beq-eq}
+use Rattle.motion.specs.LineType.{period, lineOn}
+use Rattle.motion.specs.Working.Masks.{dashed, Repeats}
 use Rattle.motion.specs.declared.line_type.LineType.{LineType}
 
 -- the table, as the code has it

@@ -9,7 +9,8 @@ use native.Mathlib.Nat.{mod-lt, mod-add-mod, div-add-mod', mul-add-div-right, di
 use native.Mathlib.Nat.{div-mul-le-self, lt-div-mul-add, div-lt-iff-lt-mul}
 use native.Mathlib.Omega.{arith}
 use lib.Arith.{digits-div, digits-mod}
-use Rattle.motion.specs.Vector.{offset, dist, errorOf}
+use Rattle.motion.specs.Vector.{offset, dist}
+use Rattle.motion.specs.Working.Strokes.{dividend, errorOf}
 
 -- a number below y + 1 times its divisor has it in it at most y times
 pub quotient-most : (x k y : ℕ) → 0 < k → x < y * k + k → x / k ≤ y
@@ -28,19 +29,19 @@ carry M m i = (errorOf M m i + 2 * m) / (2 * M)
 
 module _ (M m i : ℕ) where
   -- one dot further, what is divided is 2 × m more
-  next-sum : 2 * (i + 1) * m + M ≡ (2 * i * m + M) + 2 * m
+  next-sum : dividend M m (i + 1) ≡ dividend M m i + 2 * m
   next-sum = simp (mul-add, add-mul) (omega arith)
 
   -- so is the error term, modulo 2 × M
   pub error-next : errorOf M m (i + 1) ≡ (errorOf M m i + 2 * m) % (2 * M)
   unfolding errorOf
-  error-next = ap (λ (n : ℕ). n % (2 * M)) next-sum ∙ sym (mod-add-mod (2 * i * m + M) (2 * M) (2 * m))
+  error-next = ap (λ (n : ℕ). n % (2 * M)) next-sum ∙ sym (mod-add-mod (dividend M m i) (2 * M) (2 * m))
 
   -- and the offset steps by what that sum carries
   pub offset-next : 0 < M → offset M m (i + 1) ≡ offset M m i + carry M m i
   unfolding offset errorOf
   offset-next h =
-      let a = 2 * i * m + M in
+      let a = dividend M m i in
       let d = 2 * M in
       let e : a + 2 * m ≡ a / d * d + (a % d + 2 * m) = omega (arith, div-add-mod' a d) in
       ap (λ (n : ℕ). n / d) (next-sum ∙ e) ∙ mul-add-div-right (omega arith) (a / d) (a % d + 2 * m)
@@ -48,7 +49,7 @@ module _ (M m i : ℕ) where
   -- the error term is below 2 × M
   pub error-lt : 0 < M → errorOf M m i < 2 * M
   unfolding errorOf
-  error-lt h = mod-lt (2 * i * m + M) (omega arith)
+  error-lt h = mod-lt (dividend M m i) (omega arith)
 
   -- so the carry is none or one
   pub carry-most : 0 < M → m ≤ M → carry M m i ≤ 1
@@ -60,7 +61,7 @@ module _ (M m i : ℕ) where
   near h =
       ⊎-elim
       (λ (z : M ≡ 0). let first : i ≡ 0 = omega arith in omega (arith, ap (λ (n : ℕ). offset M m i * n) z, ap (λ (n : ℕ). n * m) first))
-      (λ (some : 0 < M). omega (arith, div-mul-le-self (2 * i * m + M) (2 * M), lt-div-mul-add {a = 2 * i * m + M} {b = 2 * M} (omega arith)))
+      (λ (some : 0 < M). omega (arith, div-mul-le-self (dividend M m i) (2 * M), lt-div-mul-add {a = dividend M m i} {b = 2 * M} (omega arith)))
       (eq-zero-or-pos M)
 
 -- within one half is closest: multiples of M lie M apart, so if one is at most M / 2 from t, each other is at least M / 2 from it
@@ -85,11 +86,11 @@ offset-start (suc M) m = rw zero-mul (div-eq-of-lt (omega arith))
 -- the last dot has all of m
 pub offset-end : (M m : ℕ) → m ≤ M → offset M m M ≡ m
 unfolding offset
-offset-end zero m h = omega (arith, div-zero (2 * 0 * m + 0))
+offset-end zero m h = omega (arith, div-zero (dividend 0 m 0))
 offset-end (suc M) m h = div-eq-of-lt-le (2 * suc M) (omega arith) (omega arith)
 
 -- no dot has more
 pub offset-most : (M m i : ℕ) → i ≤ M → offset M m i ≤ m
 unfolding offset
-offset-most zero m i h = omega (arith, div-zero (2 * i * m + 0))
-offset-most (suc M) m i h = quotient-most (2 * i * m + suc M) (2 * suc M) m (omega arith) (omega (arith, mul-le-mul-right m h))
+offset-most zero m i h = omega (arith, div-zero (dividend 0 m i))
+offset-most (suc M) m i h = quotient-most (dividend (suc M) m i) (2 * suc M) m (omega arith) (omega (arith, mul-le-mul-right m h))

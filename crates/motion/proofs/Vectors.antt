@@ -12,8 +12,8 @@ use Rattle.picture.specs.Bit.{bitAt}
 use Rattle.motion.specs.declared.vector.Line.{Line}
 use Rattle.motion.specs.declared.vector.Stroke.{Stroke}
 use Rattle.motion.specs.Position.{ahead, behind, signed}
-use Rattle.motion.specs.Vector.{givenX, givenY, lengthX, lengthY, minusX, minusY, lineOf, vectorCycles, Lengths}
-use Rattle.motion.specs.Vector.{offset, dist, alongX, alongY, vectorX, vectorY, errorOf, OnDot}
+use Rattle.motion.specs.Vector.{givenX, givenY, lengthX, lengthY, minusX, minusY, lineOf, vectorCycles, offset, dist, alongX, alongY, vectorX, vectorY}
+use Rattle.motion.specs.Working.Strokes.{Lengths, errorOf, OnDot}
 use Rattle.motion.proofs.Positions.{ahead-behind, signed-more, signed-range, signed-zero}
 use Rattle.motion.proofs.Offsets.{carry, error-next, offset-next, near, offset-start, offset-end, offset-most}
 

@@ -3,3 +3,4 @@ pub mod LineType
 pub mod Vector
 pub mod Character
 pub mod Glyph
+pub mod Working

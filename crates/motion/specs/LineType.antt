@@ -1,12 +1,9 @@
 -- The four line types: the dots of one period, which repeats from dot 0 of each vector.
 -- Assumes nothing.
-use Prim.Native.Nat.{ℕ, zero, suc, _%_, _≤_}
+use Prim.Native.Nat.{ℕ, zero, suc, _%_}
 use mathlib.Core.Bool.{Bool, true, false}
 use mathlib.Core.List.{List, _++_}
 use lib.ListN.{length, getD, replicate}
-use Rattle.picture.specs.Bit.{bitAt}
-use Rattle.picture.specs.Screen.{Power}
-use Rattle.motion.specs.declared.line_type.LineType.{LineType}
 
 abbrev pub on : ℕ → List Bool
 on n = replicate n true
@@ -24,12 +21,3 @@ period (suc (suc (suc t))) = on 10 ++ (off 2 ++ (on 2 ++ off 2))
 -- dot i of a vector is on, by the line type in bits 0 and 1 of CTRL2
 unfoldable pub lineOn : ℕ → ℕ → Bool
 lineOn ctrl2 i = getD (period (ctrl2 % 4)) (i % length (period (ctrl2 % 4))) true
-
--- an entry of the table read as a line: bit j of the mask is dot j of the period
-unfoldable pub dashed : LineType → ℕ → Bool
-dashed t i = bitAt (i % t .period) (t .mask)
-
--- what the code relies on: a period is a power of two, and its dots fit the mask
-pub record Repeats (t : LineType) : Type 0 where
-  pub power : Power (t .period)
-  pub short : t .period ≤ 16

@@ -1,13 +1,11 @@
 -- How a vector steps. c is its code, dx and dy are DELTAX and DELTAY, i counts its dots from 0.
 -- Assumes nothing.
-use mathlib.Core.Path.{_≡_}
-use Prim.Native.Nat.{ℕ, _+_, _-_, _*_, _/_, _%_, _≤_, max, min}
+use Prim.Native.Nat.{ℕ, _+_, _-_, _*_, _/_, _%_, max, min}
 use mathlib.Core.Bool.{Bool, cond, _||_}
 use lib.Dec.{eqb, ltb}
 use Rattle.picture.specs.Bit.{bitAt}
 use Rattle.motion.specs.declared.vector.Line.{Line}
-use Rattle.motion.specs.declared.vector.Stroke.{Stroke}
-use Rattle.motion.specs.Position.{ahead, signed}
+use Rattle.motion.specs.Position.{signed}
 
 -- 10 to 17 go by DELTAX and DELTAY; in 18 to 1F both are first taken as the larger;
 -- 80 to FF have the X length in bits 6 and 5, the Y length in bits 4 and 3
@@ -67,18 +65,3 @@ vectorY l i = signed (l .down) (alongY l i)
 -- how far two numbers are apart: with it, that offset × M keeps within M / 2 of the true line's i × m is one sentence
 unfoldable pub dist : ℕ → ℕ → ℕ
 dist a b = (a - b) + (b - a)
-
--- what the division of `offset` leaves: by it the code steps without dividing
-unfoldable pub errorOf : ℕ → ℕ → ℕ → ℕ
-errorOf M m i = (2 * i * m + M) % (2 * M)
-
--- lengths are bytes, and the smaller is not the larger
-pub record Lengths (l : Line) : Type 0 where
-  pub order : l .short ≤ l .long
-  pub small : l .long ≤ 255
-
--- s stands on its dot of the vector that starts at (x₀, y₀); past the last dot it stays on the last
-pub record OnDot (l : Line) (x₀ y₀ : ℕ) (s : Stroke) : Type 0 where
-  pub x : s .x ≡ ahead x₀ (vectorX l (min (s .i) (l .long)))
-  pub y : s .y ≡ ahead y₀ (vectorY l (min (s .i) (l .long)))
-  pub error : s .error ≡ errorOf (l .long) (l .short) (min (s .i) (l .long))

@@ -3,7 +3,9 @@ ghost use mathlib.Core.Path.{_≡_};
 ghost use mathlib.Core.Bool.{Bool, cond};
 ghost use Prim.Native.Nat.{ℕ, _+_, _*_, _≤_, _<_};
 ghost use Rattle.motion.specs.Position.{ahead, behind};
-ghost use Rattle.motion.specs.Character.{scale, characterOf, blockOf, bodyX, bodyY, Sized, Counts, OnPlace};
+ghost use Rattle.motion.specs.Character.{scale, characterOf, blockOf, bodyX, bodyY};
+ghost use Rattle.motion.specs.Working.Cells.{Sized, Counts, OnPlace};
+use crate::position::Spot;
 use crate::position::backward;
 use crate::position::forward;
 
@@ -25,11 +27,6 @@ pub struct Cell {
     pub rowdot: u16,
     pub column: u16,
     pub columndot: u16,
-}
-
-struct Spot {
-    x: u16,
-    y: u16,
 }
 
 fn scaled(n: u8) -> u16

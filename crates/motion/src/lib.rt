@@ -4,5 +4,6 @@
 pub mod character;
 pub mod glyph;
 pub mod line_type;
+pub mod number;
 pub mod position;
 pub mod vector;

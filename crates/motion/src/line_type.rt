@@ -1,7 +1,8 @@
 // The line types, as a table of periods and on/off masks.
 ghost use mathlib.Core.Path.{_≡_};
 ghost use Prim.Native.Nat.{ℕ};
-ghost use Rattle.motion.specs.LineType.{lineOn, dashed, Repeats};
+ghost use Rattle.motion.specs.LineType.{lineOn};
+ghost use Rattle.motion.specs.Working.Masks.{dashed, Repeats};
 
 // A period, and the dots of one period: bit j is 1 where dot j is on.
 pub struct LineType {

@@ -3,6 +3,12 @@ ghost use mathlib.Core.Path.{_≡_};
 ghost use Prim.Native.Nat.{_≤_};
 ghost use Rattle.motion.specs.Position.{ahead, behind, signed};
 
+// A place, or a way from one place to another.
+pub struct Spot {
+    pub x: u16,
+    pub y: u16,
+}
+
 // p moved on by n.
 pub fn forward(p: u16, n: u16) -> u16
     ensures { λ r. ⌜ r ≡ ahead p n ⌝ }

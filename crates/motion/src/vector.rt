@@ -1,11 +1,13 @@
 // How a vector steps: by an error term, so that no dot costs a division.
 ghost use mathlib.Core.Path.{_≡_};
 ghost use mathlib.Core.Bool.{cond};
-ghost use Prim.Native.Nat.{ℕ, _+_, _*_, _/_, _%_, _≤_, _<_, max};
+ghost use Prim.Native.Nat.{ℕ, _+_, _*_, _/_, _%_, _≤_, _<_};
 ghost use lib.Dec.{ltb};
 ghost use Rattle.picture.specs.Bit.{bitAt};
 ghost use Rattle.motion.specs.Position.{behind};
-ghost use Rattle.motion.specs.Vector.{lengthX, lengthY, minusX, minusY, lineOf, vectorX, vectorY, errorOf, Lengths, OnDot};
+ghost use Rattle.motion.specs.Vector.{lengthX, lengthY, minusX, minusY, lineOf, vectorX, vectorY};
+ghost use Rattle.motion.specs.Working.Strokes.{errorOf, Lengths, OnDot};
+use crate::number::larger;
 use crate::position::advance;
 
 // The larger length and the smaller, whether Y is the longer axis, and whether X and Y fall.
@@ -29,12 +31,6 @@ pub struct Stroke {
 struct Hop {
     step: u16,
     error: u16,
-}
-
-fn larger(a: u8, b: u8) -> u8
-    ensures { λ r. ⌜ r ≡ max a b ⌝ }
-{
-    if a < b { b } else { a }
 }
 
 // The length that a code gives an axis: the axis' own delta, the larger of both, or the code's own two bits.

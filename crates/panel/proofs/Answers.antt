@@ -1,17 +1,22 @@
 -- What the calls' answers are on paper: the numbers are small, and an accepted call gives its value, a refused one E.
 -- Assumes nothing.
-use mathlib.Core.Path.{_≡_}
+use mathlib.Core.Path.{_≡_, refl}
 use mathlib.Core.Bool.{Bool, true, false, cond, _||_}
-use mathlib.Core.List.{List}
+use mathlib.Core.List.{List, [], _∷_}
 use Prim.Native.Nat.{ℕ, _≤_, _<_}
 use native.Mathlib.Omega.{arith}
 use lib.Dec.{eqb, leb}
 use borrow.Author.Tests.{eq-eqb, ne-eqb, leb-false}
-use Rattle.parts.specs.Refusal.{lowest}
+use Rattle.basis.proofs.Cases.{or-parts}
+use Rattle.parts.proofs.Laws.{lowest-zero, lowest-most}
+use Rattle.rules.specs.State.{State}
+use Rattle.rules.specs.Figure.{Tables}
+use Rattle.rules.specs.Refusals.{bad, wrongPicture, wrongTable, noRegister, readOnly, busy, tiltedCharacter, offScreen, writeNumber, readNumber, grantNumber, vbNumber, edgeNumber}
+use Rattle.rules.specs.Calls.{Answer as Verdict, Memory, answer, outcome, written, readOut, granted, blanked, struck}
 use Rattle.gdp.specs.declared.state.Gdp.{Gdp}
-use Rattle.gdp.specs.Refusals.{bad, noAddress, writeNumber, readNumber, grantNumber, vbNumber, edgeNumber}
-use Rattle.gdp.specs.Calls.{answer, outcome, written, readOut, granted, blanked, struck}
-use Rattle.gdp.proofs.GoodParts.{or-parts, lowest-zero}
+use Rattle.gdp.specs.declared.state.Answer.{Answer}
+use Rattle.gdp.specs.Flat.{named, stateOf}
+use Rattle.gdp.specs.Calls.{answerOf}
 use Rattle.panel.specs.Answer.{lineE, answered}
 
 -- an accepted call answers its text, a refused one E
@@ -23,41 +28,64 @@ pub answer-refused : (k n : ℕ) (text : List ℕ) → (n ≡ 0 → ⊥) → ans
 unfolding answered
 answer-refused k n text h = rw (ne-eqb n 0 h)
 
+-- the number over the bytes is the definition's, or 1
+number-small : (b : Bool) {n : ℕ} → n ≤ 8 → cond b n 1 ≤ 8
+number-small true h = h
+number-small false h = omega arith
+
+number-zero : (b : Bool) {n : ℕ} → cond b n 1 ≡ 0 → n ≡ 0
+number-zero true e = e
+number-zero false e = absurd (omega arith)
+
+number-of : (b : Gdp) (r : Verdict) → answerOf b r .number ≡ cond (named b) (r .number) 1
+unfolding answerOf
+number-of b r = from (named b) _ _
+  where
+    from : (n : Bool) (x y : Answer) → cond n x y .number ≡ cond n (x .number) (y .number)
+    from true x y = refl
+    from false x y = refl
+
 -- every refusal number is at most 8
-choice : (b : Bool) {x y : ℕ} → x ≤ 8 → y ≤ 8 → cond b x y ≤ 8
-choice true h k = h
-choice false h k = k
+module _ (b : Gdp) where
+  given-small : (r : Verdict) → r .number ≤ 8 → answerOf b r .number ≤ 8
+  given-small r h = rw (number-of b r) (number-small (named b) h)
 
-lowest-small : (b1 b2 b3 b4 b5 b6 b7 b8 : Bool) → lowest b1 b2 b3 b4 b5 b6 b7 b8 ≤ 8
-unfolding lowest
-lowest-small b1 b2 b3 b4 b5 b6 b7 b8 =
-    choice b1 (omega arith) (choice b2 (omega arith) (choice b3 (omega arith) (choice b4 (omega arith)
-    (choice b5 (omega arith) (choice b6 (omega arith) (choice b7 (omega arith) (choice b8 (omega arith) (omega arith))))))))
-
-module _ (s : Gdp) where
-  pub written-small : (a v : ℕ) → (written s a v) .number ≤ 8
+  pub write-small : (a v : ℕ) → answerOf b (written (stateOf b) a v) .number ≤ 8
   unfolding written answer writeNumber
-  written-small a v = lowest-small _ _ _ _ _ _ _ _
+  write-small a v =
+      let s = stateOf b in
+      given-small (written s a v)
+      (lowest-most 8 ((1, bad s) ∷ (4, noRegister a) ∷ (5, readOnly a) ∷ (6, busy s) ∷ (7, tiltedCharacter s a v) ∷ []) tt)
 
-  pub read-small : (a : ℕ) → (readOut s a) .number ≤ 8
+  pub read-small : (a : ℕ) → answerOf b (readOut (stateOf b) a) .number ≤ 8
   unfolding readOut answer readNumber
-  read-small a = lowest-small _ _ _ _ _ _ _ _
+  read-small a =
+      let s = stateOf b in
+      given-small (readOut s a) (lowest-most 8 ((1, bad s) ∷ (4, noRegister a) ∷ []) tt)
 
-  pub granted-small : (n : ℕ) (p t : List ℕ) → (granted s n p t) .answer .number ≤ 8
+  pub grant-small : (n : ℕ) (m : Memory) (t : Tables) → answerOf b (granted (stateOf b) n m t .answer) .number ≤ 8
   unfolding granted outcome answer grantNumber
-  granted-small n p t = lowest-small _ _ _ _ _ _ _ _
+  grant-small n m t =
+      let s = stateOf b in
+      given-small (granted s n m t .answer) (lowest-most 8 ((1, bad s) ∷ (2, wrongPicture s (m .picture)) ∷ (3, wrongTable t) ∷ []) tt)
 
-  pub blanked-small : (level : Bool) (p : List ℕ) → (blanked s level p) .answer .number ≤ 8
+  pub blank-small : (level : Bool) (m : Memory) → answerOf b (blanked (stateOf b) level m .answer) .number ≤ 8
   unfolding blanked outcome answer vbNumber
-  blanked-small level p = lowest-small _ _ _ _ _ _ _ _
+  blank-small level m =
+      let s = stateOf b in
+      given-small (blanked s level m .answer) (lowest-most 8 ((1, bad s) ∷ (2, wrongPicture s (m .picture)) ∷ []) tt)
 
-  pub struck-small : (h v : ℕ) → (struck s h v) .number ≤ 8
+  pub edge-small : (h v : ℕ) → answerOf b (struck (stateOf b) h v) .number ≤ 8
   unfolding struck answer edgeNumber
-  struck-small h v = lowest-small _ _ _ _ _ _ _ _
+  edge-small h v =
+      let s = stateOf b in
+      given-small (struck s h v) (lowest-most 8 ((1, bad s) ∷ (8, offScreen h v) ∷ []) tt)
 
   -- an accepted read is of an address that one hex digit writes
-  pub read-address : (a : ℕ) → (readOut s a) .number ≡ 0 → a < 16
-  unfolding readOut answer readNumber noAddress
+  pub read-address : (a : ℕ) → answerOf b (readOut (stateOf b) a) .number ≡ 0 → a < 16
+  unfolding readOut answer readNumber noRegister
   read-address a e =
-      let none = lowest-zero (bad s) false false (noAddress a) false false false false e in
-      omega (arith, leb-false 0xE a (or-parts (eqb a 0x4 || eqb a 0x6) (leb 0xE a) (none .3) .1))
+      let s = stateOf b in
+      let zero = number-zero (named b) (rw (number-of b (readOut s a)) at e) in
+      let none = lowest-zero ((1, bad s) ∷ (4, noRegister a) ∷ []) tt zero in
+      omega (arith, leb-false 0xE a (or-parts (eqb a 0x4 || eqb a 0x6) (leb 0xE a) (none .1 .0) .1))

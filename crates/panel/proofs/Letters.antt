@@ -8,7 +8,7 @@ use native.Mathlib.Omega.{arith}
 use lib.Dec.{eqb, leb}
 use borrow.Author.Tests.{leb-true}
 use Rattle.text.specs.Taken.{Taken}
-use Rattle.text.proofs.Laws.{both}
+use Rattle.basis.proofs.Cases.{and-parts}
 use Rattle.panel.specs.declared.parse.Record.{Record}
 use Rattle.panel.specs.declared.parse.Record.the-variants.{Write, Read, Cycles, Blanking, Edge, Malformed}
 use Rattle.panel.specs.Record.{recordBy}
@@ -58,7 +58,7 @@ module _ (l : ℕ) (f : List ℕ) where
     says-edge true true m n h d e =
         rw (h, ← d .is, ← e .is, ← d .number, ← e .number)
         (same-if (leb m 255 && leb n 255) (λ t.
-        let p = both (leb m 255) (leb n 255) t in
+        let p = and-parts (leb m 255) (leb n 255) t in
         ap₂ Edge (omega (arith, leb-true m 255 (p .0))) (omega (arith, leb-true n 255 (p .1)))))
     says-edge true false m n h d e = rw (h, ← d .is, ← e .is)
     says-edge false b m n h d e = rw (h, ← d .is)

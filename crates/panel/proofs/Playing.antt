@@ -11,69 +11,68 @@ use Rattle.text.specs.Pieces.{lineFeed, linesOf}
 use Rattle.text.specs.Found.{Found}
 use Rattle.text.specs.Wrote.{Wrote}
 use Rattle.text.proofs.Laws.{lines-next, lines-end, same-later}
-use Rattle.gdp.specs.declared.state.Gdp.{Gdp}
+use Rattle.rules.specs.Card.{Card}
 use Rattle.panel.specs.declared.parse.Record.{Record}
 use Rattle.panel.specs.Record.{recordOf}
-use Rattle.panel.specs.Panel.{answerTo, answers, shown}
-use Rattle.panel.specs.Played.{Stepped}
+use Rattle.panel.specs.Panel.{cardAfter, answerTo, answers, shown}
 
--- with state s and picture p before line k, `from` bytes of the input read and `at` bytes of the buffer written
-pub record Going (input out₀ : List ℕ) (start : ℕ) (s₀ : Gdp) (p₀ : List ℕ) (s : Gdp) (p out : List ℕ) (at from k : ℕ) : Type 0 where
+-- card c is before line k, `from` bytes of the input are read and `at` bytes of the buffer written
+pub record Going (input out₀ : List ℕ) (start : ℕ) (c₀ c : Card) (out : List ℕ) (at from k : ℕ) : Type 0 where
   pub size : length out ≡ length out₀
   pub lines : k ≤ from + 1
   pub read : from ≤ length input + 1
   pub written : at ≤ start + 11 * from
   pub rest : drop at out ≡ drop at out₀
-  pub text : take at out ++ answers k s p (linesOf (drop from input)) ≡ take start out₀ ++ answers 1 s₀ p₀ (linesOf input)
-  pub picture : shown s p (linesOf (drop from input)) ≡ shown s₀ p₀ (linesOf input)
+  pub text : take at out ++ answers k c (linesOf (drop from input)) ≡ take start out₀ ++ answers 1 c₀ (linesOf input)
+  pub card : shown c (linesOf (drop from input)) ≡ shown c₀ (linesOf input)
 
 -- nothing read yet
-pub going-none : (input out₀ : List ℕ) (start : ℕ) (s₀ : Gdp) (p₀ : List ℕ) → Going input out₀ start s₀ p₀ s₀ p₀ out₀ start 0 1
-going-none input out₀ start s₀ p₀ =
-    record { size = refl; lines = omega arith; read = omega arith; written = omega arith; rest = refl; text = refl; picture = refl }
+pub going-none : (input out₀ : List ℕ) (start : ℕ) (c₀ : Card) → Going input out₀ start c₀ c₀ out₀ start 0 1
+going-none input out₀ start c₀ =
+    record { size = refl; lines = omega arith; read = omega arith; written = omega arith; rest = refl; text = refl; card = refl }
 
-module _ {input out₀ : List ℕ} {start : ℕ} {s₀ : Gdp} {p₀ : List ℕ} {s : Gdp} {p out : List ℕ} {at from k : ℕ}
-    (g : Going input out₀ start s₀ p₀ s p out at from k) where
+module _ {input out₀ : List ℕ} {start : ℕ} {c₀ c : Card} {out : List ℕ} {at from k : ℕ}
+    (g : Going input out₀ start c₀ c out at from k) where
   -- one line more
-  pub going-more : {e end : ℕ} {r : Record} {t : Gdp} {q after : List ℕ} → Found input from lineFeed e → from < length input
+  pub going-more : {e end : ℕ} {r : Record} {d : Card} {after : List ℕ} → Found input from lineFeed e → from < length input
       → r ≡ recordOf (take (e - from) (drop from input))
-      → Stepped k s p r out at t q after end
-      → Going input out₀ start s₀ p₀ t q after end (e + 1) (k + 1)
+      → d ≡ cardAfter c r → Wrote out at (answerTo k c r) after end → end ≤ at + 11
+      → Going input out₀ start c₀ d after end (e + 1) (k + 1)
   unfolding answers shown
-  going-more {e} {end} {r} {t} {q} {after} f h is d =
+  going-more {e} {end} {r} {d} {after} f h is steps text short =
       let next = lines-next f h in
-      let here : answers k s p (linesOf (drop from input)) ≡ answerTo k s p r ++ answers (suc k) t q (linesOf (drop (e + 1) input)) =
-      ap (answers k s p) next ∙ rw (d .state, d .picture, is) in
-      let seen : shown s p (linesOf (drop from input)) ≡ shown t q (linesOf (drop (e + 1) input)) =
-      ap (shown s p) next ∙ rw (d .state, d .picture, is) in
+      let here : answers k c (linesOf (drop from input)) ≡ answerTo k c r ++ answers (suc k) d (linesOf (drop (e + 1) input)) =
+      ap (answers k c) next ∙ rw (steps, is) in
+      let seen : shown c (linesOf (drop from input)) ≡ shown d (linesOf (drop (e + 1) input)) =
+      ap (shown c) next ∙ rw (steps, is) in
       record {
-        size = d .text .size ∙ g .size;
+        size = text .size ∙ g .size;
         lines = omega (arith, f .low, g .lines);
         read = omega (arith, f .high);
-        written = omega (arith, f .low, g .written, d .short);
-        rest = d .text .rest ∙ same-later out out₀ at end (omega (arith, d .text .end)) (g .rest);
+        written = omega (arith, f .low, g .written, short);
+        rest = text .rest ∙ same-later out out₀ at end (omega (arith, text .end)) (g .rest);
         text =
-            rw (add-one k, d .text .bytes)
-            (append-assoc (take at out) (answerTo k s p r) (answers (suc k) t q (linesOf (drop (e + 1) input)))
+            rw (add-one k, text .bytes)
+            (append-assoc (take at out) (answerTo k c r) (answers (suc k) d (linesOf (drop (e + 1) input)))
             ∙ ap (λ (l : List ℕ). take at out ++ l) (sym here)
             ∙ g .text);
-        picture = sym seen ∙ g .picture;
+        card = sym seen ∙ g .card;
       }
 
   -- the input is read
   pub going-all : length input ≤ from → start ≤ length out₀ → at ≤ length out
-      → Wrote out₀ start (answers 1 s₀ p₀ (linesOf input)) out at × (p ≡ shown s₀ p₀ (linesOf input))
+      → Wrote out₀ start (answers 1 c₀ (linesOf input)) out at × (c ≡ shown c₀ (linesOf input))
   unfolding answers shown
   going-all h room fits =
       let none = lines-end input from h in
-      let text : take at out ≡ take start out₀ ++ answers 1 s₀ p₀ (linesOf input) =
-      sym (append-nil (take at out)) ∙ ap (λ (l : List (List ℕ)). take at out ++ answers k s p l) (sym none) ∙ g .text in
-      let sizes = ap length text ∙ length-append (take start out₀) (answers 1 s₀ p₀ (linesOf input)) in (
+      let text : take at out ≡ take start out₀ ++ answers 1 c₀ (linesOf input) =
+      sym (append-nil (take at out)) ∙ ap (λ (l : List (List ℕ)). take at out ++ answers k c l) (sym none) ∙ g .text in
+      let sizes = ap length text ∙ length-append (take start out₀) (answers 1 c₀ (linesOf input)) in (
         record {
           end = omega (arith, sizes, length-take-le at out fits, length-take-le start out₀ room);
           size = g .size;
           bytes = text;
           rest = g .rest;
         },
-        ap (shown s p) (sym none) ∙ g .picture,
+        ap (shown c) (sym none) ∙ g .card,
       )

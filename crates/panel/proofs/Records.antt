@@ -13,7 +13,8 @@ use borrow.Author.Tests.{ne-eqb, eqb-true, eqb-false}
 use Rattle.text.specs.Pieces.{tab, attached, fieldsOf}
 use Rattle.text.specs.Numbers.{isNumber}
 use Rattle.text.specs.Found.{Found}
-use Rattle.text.proofs.Laws.{split, at-tabs, joins, found-cut, found-whole, one-or-tab, no-digits}
+use Rattle.basis.proofs.Cases.{split}
+use Rattle.text.proofs.Laws.{at-tabs, joins, found-cut, found-whole, one-or-tab, no-digits}
 use Rattle.panel.specs.declared.parse.Record.{Record}
 use Rattle.panel.specs.declared.parse.Record.the-variants.{Malformed}
 use Rattle.panel.specs.Record.{letterOf, recordBy, recordOf}

@@ -1,49 +1,109 @@
 -- A record played by its call: what the call answers, once it is written, makes the definition's step.
 -- Assumes nothing.
-use mathlib.Core.Path.{_≡_, refl}
-use mathlib.Core.Bool.{Bool}
+use mathlib.Core.Path.{_≡_, refl, sym, ap, _∙_, subst}
+use mathlib.Core.Bool.{Bool, true}
 use mathlib.Core.List.{List, []}
 use Prim.Native.Nat.{ℕ, _+_, _≤_}
 use Rattle.text.specs.Wrote.{Wrote}
+use Rattle.parts.specs.declared.format.Format.the-variants.{Ef9366}
+use Rattle.rules.specs.State.{fresh}
+use Rattle.rules.specs.Figure.{tables}
+use Rattle.rules.specs.Calls.{Answer as Verdict, Memory, memory, written, readOut, granted, blanked, struck}
+use Rattle.rules.specs.Card.{Card, next, outcomeOf}
 use Rattle.gdp.specs.declared.state.Gdp.{Gdp}
 use Rattle.gdp.specs.declared.state.Answer.{Answer}
-use Rattle.gdp.specs.Calls.{written, readOut, granted, blanked, struck, Leaves}
+use Rattle.gdp.specs.Flat.{flat, stateOf}
+use Rattle.gdp.specs.Calls.{answerOf, Grants, Blanks}
+use Rattle.gdp.specs.Working.Steps.{flatAnswer}
+use Rattle.gdp.proofs.Laws.{back, written-across, read-across, granted-across, blanked-across, struck-across}
+use Rattle.panel.specs.declared.parse.Record.{Record}
 use Rattle.panel.specs.declared.parse.Record.the-variants.{Write, Read, Cycles, Blanking, Edge}
 use Rattle.panel.specs.Answer.{lineR, lineT, answered}
-use Rattle.panel.specs.Panel.{glyphs, stateAfter, pictureAfter, answerTo}
-use Rattle.panel.specs.Played.{Stepped}
+use Rattle.panel.specs.Panel.{glyphs, dark, card, cardAfter, answerTo}
+use Rattle.panel.specs.Working.Played.{cardAt, Tidy, Stepped}
 
-module _ {k : ℕ} {s : Gdp} {out after : List ℕ} {at end : ℕ} {r : Answer} where
-  -- calls that are lent no picture change none
-  module _ (p : List ℕ) where
-    pub write-stepped : {a v : ℕ} → r ≡ written s a v → Wrote out at (answered k (r .number) []) after end × (end ≤ at + 11)
-        → Stepped k s p (Write a v) out at (r .state) p after end
-    unfolding stateAfter pictureAfter answerTo
-    write-stepped e w = rw e (record { state = refl; picture = refl; text = rw e at (w .0); short = w .1 })
+-- a call on tidy bytes answers what it answers on the bytes of their state
+tidied : {A : Type 0} {s : Gdp} (f : Gdp → A) → Tidy s → {x : A} → f (flat (stateOf s)) ≡ x → f s ≡ x
+tidied f tidy e = ap f tidy ∙ e
 
-    pub edge-stepped : {h v : ℕ} → r ≡ struck s h v → Wrote out at (answered k (r .number) []) after end × (end ≤ at + 11)
-        → Stepped k s p (Edge h v) out at (r .state) p after end
-    unfolding stateAfter pictureAfter answerTo
-    edge-stepped e w = rw e (record { state = refl; picture = refl; text = rw e at (w .0); short = w .1 })
+-- bytes that an answer hands back are tidy, and stand for its state
+module _ (w : Verdict) {r : Answer} (e : r ≡ flatAnswer w) where
+  given-tidy : Tidy (r .state)
+  unfolding flatAnswer
+  given-tidy = rw e (ap flat (sym (back (w .state))))
 
-    pub read-stepped : {a : ℕ} → r ≡ readOut s a
-        → Wrote out at (answered k (r .number) (lineR a (r .value))) after end × (end ≤ at + 11)
-        → Stepped k s p (Read a) out at (r .state) p after end
-    unfolding stateAfter pictureAfter answerTo
-    read-stepped e w = rw e (record { state = refl; picture = refl; text = rw e at (w .0); short = w .1 })
+  given-state : stateOf (r .state) ≡ w .state
+  unfolding flatAnswer
+  given-state = rw e (back (w .state))
 
-  -- the others leave the picture of their outcome
-  module _ {p q : List ℕ} where
-    pub cycles-stepped : {n : ℕ} → Leaves (granted s n p glyphs) r q
-        → Wrote out at (answered k (r .number) (lineT (r .value))) after end × (end ≤ at + 11)
-        → Stepped k s p (Cycles n) out at (r .state) q after end
-    unfolding stateAfter pictureAfter answerTo
-    cycles-stepped o w =
-        rw (o .answers) (record { state = refl; picture = o .pictures; text = rw (o .answers) at (w .0); short = w .1 })
+module _ {k : ℕ} {s : Gdp} (tidy : Tidy s) {out after : List ℕ} {at end : ℕ} {r : Answer} where
+  -- calls that are lent no memory change none
+  module _ (p t : List ℕ) where
+    -- what such a call does, by the definition's answer to it
+    stepped : (w : Verdict) (what : Record) → r ≡ flatAnswer w → cardAfter (cardAt s p t) what ≡ record { state = w .state; memory = memory p; tables = tables t }
+        → Wrote out at (answerTo k (cardAt s p t) what) after end → end ≤ at + 11
+        → Stepped k s p t what out at (r .state) p after end
+    stepped w what e same text short =
+        record {
+          card = (λ j. record { state = given-state w e j; memory = memory p; tables = tables t }) ∙ sym same;
+          tidy = given-tidy w e;
+          text = text;
+          short = short;
+        }
 
-    pub blanking-stepped : {level : Bool} → Leaves (blanked s level p) r q
+    pub write-stepped : {a v : ℕ} → r ≡ answerOf s (written (stateOf s) a v)
         → Wrote out at (answered k (r .number) []) after end × (end ≤ at + 11)
-        → Stepped k s p (Blanking level) out at (r .state) q after end
-    unfolding stateAfter pictureAfter answerTo
-    blanking-stepped o w =
-        rw (o .answers) (record { state = refl; picture = o .pictures; text = rw (o .answers) at (w .0); short = w .1 })
+        → Stepped k s p t (Write a v) out at (r .state) p after end
+    unfolding cardAfter answerTo next outcomeOf flatAnswer
+    write-stepped {a} {v} e w =
+        let is = e ∙ tidied (λ b. answerOf b (written (stateOf b) a v)) tidy (written-across (stateOf s) a v) in
+        stepped (written (stateOf s) a v) (Write a v) is refl (rw is at (w .0)) (w .1)
+
+    pub edge-stepped : {h v : ℕ} → r ≡ answerOf s (struck (stateOf s) h v)
+        → Wrote out at (answered k (r .number) []) after end × (end ≤ at + 11)
+        → Stepped k s p t (Edge h v) out at (r .state) p after end
+    unfolding cardAfter answerTo next outcomeOf flatAnswer
+    edge-stepped {h} {v} e w =
+        let is = e ∙ tidied (λ b. answerOf b (struck (stateOf b) h v)) tidy (struck-across (stateOf s) h v) in
+        stepped (struck (stateOf s) h v) (Edge h v) is refl (rw is at (w .0)) (w .1)
+
+    pub read-stepped : {a : ℕ} → r ≡ answerOf s (readOut (stateOf s) a)
+        → Wrote out at (answered k (r .number) (lineR a (r .value))) after end × (end ≤ at + 11)
+        → Stepped k s p t (Read a) out at (r .state) p after end
+    unfolding cardAfter answerTo next outcomeOf flatAnswer
+    read-stepped {a} e w =
+        let is = e ∙ tidied (λ b. answerOf b (readOut (stateOf b) a)) tidy (read-across (stateOf s) a) in
+        stepped (readOut (stateOf s) a) (Read a) is refl (rw is at (w .0)) (w .1)
+
+  -- the others leave the memory of their outcome
+  module _ {p q : List ℕ} where
+    pub cycles-stepped : {n : ℕ} {t : List ℕ} → Grants s n p t r q
+        → Wrote out at (answered k (r .number) (lineT (r .value))) after end × (end ≤ at + 11)
+        → Stepped k s p t (Cycles n) out at (r .state) q after end
+    unfolding cardAfter answerTo next outcomeOf flatAnswer
+    cycles-stepped {n} {t} o w =
+        let x = granted-across (stateOf s) n p t (subst (λ (b : Gdp). Grants b n p t r q) tidy o) in
+        record {
+          card = λ j. record { state = given-state (granted (stateOf s) n (memory p) (tables t) .answer) (x .answers) j; memory = x .memories j; tables = tables t };
+          tidy = given-tidy (granted (stateOf s) n (memory p) (tables t) .answer) (x .answers);
+          text = rw (x .answers) at (w .0);
+          short = w .1;
+        }
+
+    pub blanking-stepped : {level : Bool} (t : List ℕ) → Blanks s level p r q
+        → Wrote out at (answered k (r .number) []) after end × (end ≤ at + 11)
+        → Stepped k s p t (Blanking level) out at (r .state) q after end
+    unfolding cardAfter answerTo next outcomeOf flatAnswer
+    blanking-stepped {level} t o w =
+        let x = blanked-across (stateOf s) level p (subst (λ (b : Gdp). Blanks b level p r q) tidy o) in
+        record {
+          card = λ j. record { state = given-state (blanked (stateOf s) level (memory p) .answer) (x .answers) j; memory = x .memories j; tables = tables t };
+          tidy = given-tidy (blanked (stateOf s) level (memory p) .answer) (x .answers);
+          text = rw (x .answers) at (w .0);
+          short = w .1;
+        }
+
+-- the bytes of the fresh state, with a dark picture and a blank table, are the panel's card
+pub started : {s : Gdp} {p t : List ℕ} → s ≡ flat (fresh Ef9366) → p ≡ dark → t ≡ glyphs → cardAt s p t ≡ card
+unfolding card
+started e hp ht = rw (e, hp, ht, back)

@@ -1,4 +1,4 @@
 pub mod Record
 pub mod Answer
 pub mod Panel
-pub mod Played
+pub mod Working

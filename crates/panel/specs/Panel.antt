@@ -9,9 +9,10 @@ use lib.ListN.{length, replicate, take}
 use Rattle.text.specs.Pieces.{linesOf}
 use Rattle.picture.specs.Dot.{dotAt}
 use Rattle.parts.specs.declared.format.Format.the-variants.{Ef9366}
-use Rattle.gdp.specs.declared.state.Gdp.{Gdp}
-use Rattle.gdp.specs.State.{fresh}
-use Rattle.gdp.specs.Calls.{written, readOut, granted, blanked, struck}
+use Rattle.rules.specs.State.{fresh}
+use Rattle.rules.specs.Figure.{tables}
+use Rattle.rules.specs.Calls.{memory}
+use Rattle.rules.specs.Card.{Card, W, R, T, VB, LP, outcomeOf, next}
 use Rattle.panel.specs.declared.parse.Record.{Record}
 use Rattle.panel.specs.declared.parse.Record.the-variants.{Write, Read, Cycles, Blanking, Edge, Malformed}
 use Rattle.panel.specs.Record.{recordOf}
@@ -23,40 +24,36 @@ glyphs = replicate 480 0
 unfoldable pub dark : List ℕ
 dark = replicate 16384 0
 
--- the state after a record, the picture after it, and what line k answers
-unfoldable pub stateAfter : Gdp → List ℕ → Record → Gdp
-stateAfter s p (Write a v) = (written s a v) .state
-stateAfter s p (Read a) = (readOut s a) .state
-stateAfter s p (Cycles n) = (granted s n p glyphs) .answer .state
-stateAfter s p (Blanking level) = (blanked s level p) .answer .state
-stateAfter s p (Edge h v) = (struck s h v) .state
-stateAfter s p Malformed = s
+-- the card that the panel plays
+unfoldable pub card : Card
+card = record { state = fresh Ef9366; memory = memory dark; tables = tables glyphs }
 
-unfoldable pub pictureAfter : Gdp → List ℕ → Record → List ℕ
-pictureAfter s p (Write a v) = p
-pictureAfter s p (Read a) = p
-pictureAfter s p (Cycles n) = (granted s n p glyphs) .picture
-pictureAfter s p (Blanking level) = (blanked s level p) .picture
-pictureAfter s p (Edge h v) = p
-pictureAfter s p Malformed = p
+-- the card after a record; a malformed line changes nothing
+unfoldable pub cardAfter : Card → Record → Card
+cardAfter c (Write a v) = next c (W a v)
+cardAfter c (Read a) = next c (R a)
+cardAfter c (Cycles n) = next c (T n)
+cardAfter c (Blanking level) = next c (VB level)
+cardAfter c (Edge h v) = next c (LP h v)
+cardAfter c Malformed = c
 
-unfoldable pub answerTo : ℕ → Gdp → List ℕ → Record → List ℕ
-answerTo k s p (Write a v) = answered k ((written s a v) .number) []
-answerTo k s p (Read a) = answered k ((readOut s a) .number) (lineR a ((readOut s a) .value))
-answerTo k s p (Cycles n) = answered k ((granted s n p glyphs) .answer .number) (lineT ((granted s n p glyphs) .answer .value))
-answerTo k s p (Blanking level) = answered k ((blanked s level p) .answer .number) []
-answerTo k s p (Edge h v) = answered k ((struck s h v) .number) []
-answerTo k s p Malformed = lineE k 20
+-- what line k answers: a read and a grant their value, a refusal E, a malformed line E with 20
+unfoldable pub answerTo : ℕ → Card → Record → List ℕ
+answerTo k c (Write a v) = answered k ((outcomeOf c (W a v)) .answer .number) []
+answerTo k c (Read a) = answered k ((outcomeOf c (R a)) .answer .number) (lineR a ((outcomeOf c (R a)) .answer .value))
+answerTo k c (Cycles n) = answered k ((outcomeOf c (T n)) .answer .number) (lineT ((outcomeOf c (T n)) .answer .value))
+answerTo k c (Blanking level) = answered k ((outcomeOf c (VB level)) .answer .number) []
+answerTo k c (Edge h v) = answered k ((outcomeOf c (LP h v)) .answer .number) []
+answerTo k c Malformed = lineE k 20
 
--- the answers to some lines, of which the first is line k, and the picture at the end
-unfoldable pub answers : ℕ → Gdp → List ℕ → List (List ℕ) → List ℕ
-answers k s p [] = []
-answers k s p (l ∷ ls) =
-    answerTo k s p (recordOf l) ++ answers (suc k) (stateAfter s p (recordOf l)) (pictureAfter s p (recordOf l)) ls
+-- the answers to some lines, of which the first is line k, and the card at the end
+unfoldable pub answers : ℕ → Card → List (List ℕ) → List ℕ
+answers k c [] = []
+answers k c (l ∷ ls) = answerTo k c (recordOf l) ++ answers (suc k) (cardAfter c (recordOf l)) ls
 
-unfoldable pub shown : Gdp → List ℕ → List (List ℕ) → List ℕ
-shown s p [] = p
-shown s p (l ∷ ls) = shown (stateAfter s p (recordOf l)) (pictureAfter s p (recordOf l)) ls
+unfoldable pub shown : Card → List (List ℕ) → Card
+shown c [] = c
+shown c (l ∷ ls) = shown (cardAfter c (recordOf l)) ls
 
 -- one P line per lit dot of the k dots from d on: by y, then x
 unfoldable pub dotLines : List ℕ → ℕ → ℕ → List ℕ
@@ -68,7 +65,7 @@ unfoldable pub panel : List ℕ → List ℕ
 panel input =
     cond (ltb 65536 (length input)) (lineE 0 21)
     (lineG
-    ++ (answers 1 (fresh Ef9366) dark (linesOf input) ++ dotLines (shown (fresh Ef9366) dark (linesOf input)) 0 131072))
+    ++ (answers 1 card (linesOf input) ++ dotLines ((shown card (linesOf input)) .memory .picture) 0 131072))
 
 -- the bytes of a lent buffer that hold every output: 7 for G, 11 for each line, 10 for each dot, room for a line in hand
 abbrev pub longest : ℕ

@@ -4,8 +4,7 @@ ghost use mathlib.Core.List.{List, []};
 ghost use Prim.Native.Nat.{ℕ, _+_, _≤_};
 ghost use Rattle.panel.specs.declared.parse.Record.{Record};
 ghost use Rattle.panel.specs.Answer.{answered};
-ghost use Rattle.panel.specs.Panel.{glyphs};
-ghost use Rattle.panel.specs.Played.{Room, Stepped};
+ghost use Rattle.panel.specs.Working.Played.{Room, Stepped, Tidy};
 ghost use Rattle.text.specs.Wrote.{Wrote};
 use crate::output::put_e;
 use crate::output::put_r;
@@ -33,7 +32,7 @@ fn put_refusal(out: &mut [u8], at: usize, line: u32, number: u8) -> usize
 // W. It is lent no picture, so it is the step for any; L and R likewise.
 fn play_write(s: Gdp, line: u32, address: u8, value: u8, out: &mut [u8], at: usize) -> Step
     requires { ⌜ Room line at (now out) ⌝ }
-    ensures { λ r. ⌜ ((p : List ℕ) → Stepped line s p (Record.Write address value) (now (out .entry)) at (r .state) p (now (out .exit)) (r .at)) ⌝ }
+    ensures { λ r. ⌜ (Tidy s → (p t : List ℕ) → Stepped line s p t (Record.Write address value) (now (out .entry)) at (r .state) p (now (out .exit)) (r .at)) ⌝ }
 {
     let a = s.write(address, value);
     let state = a.state;
@@ -47,7 +46,7 @@ fn play_write(s: Gdp, line: u32, address: u8, value: u8, out: &mut [u8], at: usi
 // L.
 fn play_edge(s: Gdp, line: u32, h: u16, v: u16, out: &mut [u8], at: usize) -> Step
     requires { ⌜ Room line at (now out) ⌝ }
-    ensures { λ r. ⌜ ((p : List ℕ) → Stepped line s p (Record.Edge h v) (now (out .entry)) at (r .state) p (now (out .exit)) (r .at)) ⌝ }
+    ensures { λ r. ⌜ (Tidy s → (p t : List ℕ) → Stepped line s p t (Record.Edge h v) (now (out .entry)) at (r .state) p (now (out .exit)) (r .at)) ⌝ }
 {
     let a = s.strike_lpck(h, v);
     let state = a.state;
@@ -61,7 +60,7 @@ fn play_edge(s: Gdp, line: u32, h: u16, v: u16, out: &mut [u8], at: usize) -> St
 // R.
 fn play_read(s: Gdp, line: u32, address: u8, out: &mut [u8], at: usize) -> Step
     requires { ⌜ Room line at (now out) ⌝ }
-    ensures { λ r. ⌜ ((p : List ℕ) → Stepped line s p (Record.Read address) (now (out .entry)) at (r .state) p (now (out .exit)) (r .at)) ⌝ }
+    ensures { λ r. ⌜ (Tidy s → (p t : List ℕ) → Stepped line s p t (Record.Read address) (now (out .entry)) at (r .state) p (now (out .exit)) (r .at)) ⌝ }
 {
     let a = s.read(address);
     let state = a.state;
@@ -89,8 +88,8 @@ fn play_cycles(
     out: &mut [u8],
     at: usize,
 ) -> Step
-    requires { ⌜ Room line at (now out) × (now table ≡ glyphs) ⌝ }
-    ensures { λ r. ⌜ Stepped line s (now (pic .entry)) (Record.Cycles n) (now (out .entry)) at (r .state) (now (pic .exit)) (now (out .exit)) (r .at) ⌝ }
+    requires { ⌜ Room line at (now out) ⌝ }
+    ensures { λ r. ⌜ (Tidy s → Stepped line s (now (pic .entry)) (now (table .entry)) (Record.Cycles n) (now (out .entry)) at (r .state) (now (pic .exit)) (now (out .exit)) (r .at)) ⌝ }
 {
     let a = s.grant(n, pic, table);
     let state = a.state;
@@ -111,7 +110,7 @@ fn play_cycles(
 // V.
 fn play_blanking(s: Gdp, line: u32, level: bool, pic: &mut [u8], out: &mut [u8], at: usize) -> Step
     requires { ⌜ Room line at (now out) ⌝ }
-    ensures { λ r. ⌜ Stepped line s (now (pic .entry)) (Record.Blanking level) (now (out .entry)) at (r .state) (now (pic .exit)) (now (out .exit)) (r .at) ⌝ }
+    ensures { λ r. ⌜ (Tidy s → (t : List ℕ) → Stepped line s (now (pic .entry)) t (Record.Blanking level) (now (out .entry)) at (r .state) (now (pic .exit)) (now (out .exit)) (r .at)) ⌝ }
 {
     let a = s.set_vb(level, pic);
     let state = a.state;
@@ -132,8 +131,8 @@ pub fn play_record(
     out: &mut [u8],
     at: usize,
 ) -> Step
-    requires { ⌜ Room line at (now out) × (now table ≡ glyphs) ⌝ }
-    ensures { λ r. ⌜ Stepped line s (now (pic .entry)) what (now (out .entry)) at (r .state) (now (pic .exit)) (now (out .exit)) (r .at) ⌝ }
+    requires { ⌜ Room line at (now out) × Tidy s ⌝ }
+    ensures { λ r. ⌜ Stepped line s (now (pic .entry)) (now (table .entry)) what (now (out .entry)) at (r .state) (now (pic .exit)) (now (out .exit)) (r .at) ⌝ }
 {
     match what {
         Record::Write { address, value } => play_write(s, line, address, value, out, at),

@@ -2,9 +2,7 @@
 ghost use mathlib.Core.Path.{_≡_};
 ghost use Prim.Native.Nat.{_+_, _≤_};
 ghost use lib.ListN.{length};
-ghost use Rattle.parts.specs.declared.format.Format.{Format};
-ghost use Rattle.gdp.specs.State.{fresh};
-ghost use Rattle.panel.specs.Panel.{glyphs, dark, answers, shown};
+ghost use Rattle.panel.specs.Panel.{glyphs, dark, card, answers, shown};
 ghost use Rattle.text.specs.Pieces.{linesOf};
 ghost use Rattle.text.specs.Wrote.{Wrote};
 use crate::parse::parse;
@@ -17,8 +15,8 @@ use text::find::find;
 // The answers to all lines behind the first `start` bytes; the picture is left as the last line leaves it.
 pub fn play_lines(input: &[u8], pic: &mut [u8], table: &[u8], out: &mut [u8], start: usize) -> usize
     requires { ⌜ (length (now input) ≤ 65536) × (now pic ≡ dark) × (now table ≡ glyphs) × (start + 720921 ≤ length (now out)) ⌝ }
-    ensures { λ r. ⌜ Wrote (now (out .entry)) start (answers 1 (fresh Format.Ef9366) dark (linesOf (now (input .entry)))) (now (out .exit)) r ⌝ }
-    ensures { λ r. ⌜ (now (pic .exit) ≡ shown (fresh Format.Ef9366) dark (linesOf (now (input .entry)))) × (r ≤ start + 720907) ⌝ }
+    ensures { λ r. ⌜ Wrote (now (out .entry)) start (answers 1 card (linesOf (now (input .entry)))) (now (out .exit)) r ⌝ }
+    ensures { λ r. ⌜ (now (pic .exit) ≡ shown card (linesOf (now (input .entry))) .memory .picture) × (r ≤ start + 720907) ⌝ }
 {
     let mut s = Gdp::fresh(Format::Ef9366);
     let mut at = start;

@@ -1,12 +1,13 @@
 -- What every format has: a window whose sides are powers of two, held in the memory that document 01's table gives.
 -- Assumes nothing.
 use mathlib.Core.Path.{_≡_, refl}
+use mathlib.Core.Bool.{Bool}
 use Prim.Native.Nat.{_^_}
 use native.Mathlib.Omega.{arith}
 use Rattle.picture.specs.Screen.{Screen}
 use Rattle.parts.specs.declared.format.Format.{Format}
 use Rattle.parts.specs.declared.format.Format.the-variants.{Ef9366, FmatHigh, FmatLow}
-use Rattle.parts.specs.Format.{width, height, bytes, widthBits, heightBits}
+use Rattle.parts.specs.Format.{width, height, window, bytes, widthBits, heightBits}
 
 pub width-power : (f : Format) → width f ≡ 2 ^ widthBits f
 unfolding width widthBits
@@ -25,9 +26,9 @@ pub memory : (bytes Ef9366 ≡ 16384) × (bytes FmatHigh ≡ 32768) × (bytes Fm
 unfolding bytes width height
 memory = (refl, refl, refl)
 
--- every format is a screen of the picture memory
-pub screen : (f : Format) → Screen (width f) (height f) (bytes f)
-unfolding bytes width height widthBits heightBits
-screen Ef9366 = record { area = refl; wide = (9, refl); high = (8, refl); small = omega arith }
-screen FmatHigh = record { area = refl; wide = (9, refl); high = (9, refl); small = omega arith }
-screen FmatLow = record { area = refl; wide = (8, refl); high = (8, refl); small = omega arith }
+-- every format's window is a screen of the picture memory
+pub screen : (f : Format) (cyclic : Bool) → Screen (window f cyclic) (bytes f)
+unfolding window bytes width height widthBits heightBits
+screen Ef9366 cyclic = record { area = refl; wide = (9, refl); high = (8, refl); small = omega arith }
+screen FmatHigh cyclic = record { area = refl; wide = (9, refl); high = (9, refl); small = omega arith }
+screen FmatLow cyclic = record { area = refl; wide = (8, refl); high = (8, refl); small = omega arith }

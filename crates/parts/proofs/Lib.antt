@@ -1,2 +1,5 @@
-pub mod Formats
-pub mod Unique
+pub mod Laws
+mod Codes
+mod Formats
+mod Refusals
+mod Unique

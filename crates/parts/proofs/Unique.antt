@@ -1,18 +1,19 @@
 -- Two positions of the window never share all three address outputs.
 -- Assumes nothing.
-use mathlib.Core.Path.{_≡_, refl, sym, ap, ap₂, _∙_, subst}
+use mathlib.Core.Path.{_≡_, refl, sym, ap, ap₂, _∙_}
 use mathlib.Core.Logic.{⊎-elim, _⊎_, inl, inr}
-use mathlib.Core.Bool.{Bool, true, false, not, _&&_, _||_}
+use mathlib.Core.Bool.{Bool, true, false, not, _||_}
 use mathlib.Core.List.{List, [], _∷_, _++_, map}
 use Prim.Native.Nat.{ℕ, zero, suc, _/_, _%_, _<_}
-use native.Mathlib.Nat.{not-suc-le-zero, le-of-suc-le-suc, suc-inj, eq-or-lt-of-le}
+use native.Mathlib.Nat.{suc-inj}
 use native.Mathlib.Omega.{arith}
 use lib.Dec.{T, eqb, eqb→eq}
 use lib.Pow.{field}
 use lib.ListN.{length, length-map, getD}
 use borrow.Author.Tests.{eqb-true, not-false}
+use Rattle.basis.proofs.Table.{below, passes}
 use Rattle.picture.specs.Bit.{digit}
-use Rattle.picture.proofs.Bits.{bit-ext, digit-lt}
+use Rattle.picture.proofs.Laws.{bit-ext, digit-lt}
 use Rattle.parts.specs.declared.format.Format.{Format}
 use Rattle.parts.specs.declared.format.Format.the-variants.{Ef9366, FmatHigh, FmatLow}
 use Rattle.parts.specs.declared.address.Address.{Address}
@@ -50,14 +51,6 @@ same up (Y j) = false
 abbrev among : Pin → List Pin → Bool
 among p [] = false
 among p (q ∷ qs) = same p q || among p qs
-
-and-left : (a b : Bool) → T (a && b) → T a
-and-left true b t = tt
-and-left false b t = t
-
-and-right : (a b : Bool) → T (a && b) → T b
-and-right true b t = t
-and-right false b t = absurd t
 
 or-left : (a b : Bool) → T a → T (a || b)
 or-left true b t = tt
@@ -147,25 +140,13 @@ agree f x y u v e p t =
     (among-append p (lowPins f) (highPins f ++ mslPins f) t)
 
 -- every bit of a position in the window is among them, by a test that antt computes
-abbrev all : (ℕ → Bool) → ℕ → Bool
-all test zero = true
-all test (suc n) = test n && all test n
-
-all-at : (test : ℕ → Bool) (n : ℕ) → T (all test n) → (k : ℕ) → k < n → T (test k)
-all-at test zero t k h = absurd (not-suc-le-zero h)
-all-at test (suc n) t k h =
-    ⊎-elim
-    (λ e. subst (λ (m : ℕ). T (test m)) (sym e) (and-left (test n) (all test n) t))
-    (λ l. all-at test n (and-right (test n) (all test n) t) k l)
-    (eq-or-lt-of-le (le-of-suc-le-suc h))
-
-all-x : (f : Format) → T (all (λ k. among (X k) (wires f)) (widthBits f))
+all-x : (f : Format) → T (below (λ k. among (X k) (wires f)) (widthBits f))
 unfolding widthBits
 all-x Ef9366 = tt
 all-x FmatHigh = tt
 all-x FmatLow = tt
 
-all-y : (f : Format) → T (all (λ k. among (Y k) (wires f)) (heightBits f))
+all-y : (f : Format) → T (below (λ k. among (Y k) (wires f)) (heightBits f))
 unfolding heightBits
 all-y Ef9366 = tt
 all-y FmatHigh = tt
@@ -176,7 +157,7 @@ pub unique : (f : Format) (x y u v : ℕ) → x < width f → u < width f → y 
     → addressOf f x y ≡ addressOf f u v → (x ≡ u) × (y ≡ v)
 unique f x y u v hx hu hy hv e = (
   bit-ext (widthBits f) x u (rw (← width-power f) hx) (rw (← width-power f) hu)
-      (λ k l. agree f x y u v e (X k) (all-at (λ k. among (X k) (wires f)) (widthBits f) (all-x f) k l)),
+      (λ k l. agree f x y u v e (X k) (passes (λ k. among (X k) (wires f)) (widthBits f) (all-x f) k l)),
   bit-ext (heightBits f) y v (rw (← height-power f) hy) (rw (← height-power f) hv)
-      (λ k l. agree f x y u v e (Y k) (all-at (λ k. among (Y k) (wires f)) (heightBits f) (all-y f) k l)),
+      (λ k l. agree f x y u v e (Y k) (passes (λ k. among (Y k) (wires f)) (heightBits f) (all-y f) k l)),
 )

@@ -24,3 +24,19 @@ lettering Block = true
 lettering Vector = false
 lettering OneCycle = false
 lettering NoCycle = false
+
+-- a vector
+abbrev pub lining : Kind → Bool
+lining Vector = true
+lining Character = false
+lining Block = false
+lining OneCycle = false
+lining NoCycle = false
+
+-- a command that takes no write cycle
+abbrev pub prompting : Kind → Bool
+prompting NoCycle = true
+prompting OneCycle = false
+prompting Vector = false
+prompting Character = false
+prompting Block = false

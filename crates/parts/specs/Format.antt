@@ -1,6 +1,8 @@
 -- The formats: EF9366; EF9365 with FMAT high and with FMAT low.
 -- Assumes nothing.
 use Prim.Native.Nat.{ℕ, _*_, _/_}
+use mathlib.Core.Bool.{Bool}
+use Rattle.picture.specs.declared.screen.Window.{Window}
 use Rattle.parts.specs.declared.format.Format.{Format}
 use Rattle.parts.specs.declared.format.Format.the-variants.{Ef9366, FmatHigh, FmatLow}
 
@@ -13,6 +15,10 @@ unfoldable pub height : Format → ℕ
 height Ef9366 = 256
 height FmatHigh = 512
 height FmatLow = 256
+
+-- the window, on a cyclic screen or not
+unfoldable pub window : Format → Bool → Window
+window f cyclic = record { width = width f; height = height f; cyclic = cyclic }
 
 -- the picture's memory has a bit for each dot
 unfoldable pub bytes : Format → ℕ

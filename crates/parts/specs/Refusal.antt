@@ -2,7 +2,12 @@
 -- Assumes nothing.
 use Prim.Native.Nat.{ℕ}
 use mathlib.Core.Bool.{Bool, cond}
+use mathlib.Core.List.{List, [], _∷_}
 
-unfoldable pub lowest : Bool → Bool → Bool → Bool → Bool → Bool → Bool → Bool → ℕ
-lowest b1 b2 b3 b4 b5 b6 b7 b8 =
-    cond b1 1 (cond b2 2 (cond b3 3 (cond b4 4 (cond b5 5 (cond b6 6 (cond b7 7 (cond b8 8 0)))))))
+-- a call's own cases, each with its number, in the order of the numbers
+abbrev pub Cases : Type 0
+Cases = List (ℕ × Bool)
+
+unfoldable pub lowest : Cases → ℕ
+lowest [] = 0
+lowest (c ∷ cs) = cond (c .1) (c .0) (lowest cs)

@@ -1,6 +1,6 @@
 // The command decoder.
 ghost use mathlib.Core.Path.{_≡_};
-ghost use Rattle.parts.specs.Command.{kind, lettering};
+ghost use Rattle.parts.specs.Command.{kind, lettering, lining, prompting};
 
 // How a command uses write cycles: none (the clears too), one without a dot, or those of its figure.
 pub enum Kind {
@@ -35,15 +35,23 @@ pub fn kind_of(code: u8) -> Kind
     Kind::Vector
 }
 
-// A character command, which tilt refuses.
-pub fn is_lettering(k: Kind) -> bool
-    ensures { λ r. ⌜ r ≡ lettering k ⌝ }
+// A character command: 20 to 7F, 0A, 0B.
+pub fn is_letter(code: u8) -> bool
+    ensures { λ r. ⌜ r ≡ lettering (kind code) ⌝ }
 {
-    match k {
-        Kind::NoCycle => false,
-        Kind::OneCycle => false,
-        Kind::Vector => false,
-        Kind::Character => true,
-        Kind::Block => true,
-    }
+    ((0x20 <= code) & (code < 0x80)) | (code == 0x0A) | (code == 0x0B)
+}
+
+// A vector: 10 to 1F, 80 to FF.
+pub fn is_line(code: u8) -> bool
+    ensures { λ r. ⌜ r ≡ lining (kind code) ⌝ }
+{
+    ((0x10 <= code) & (code < 0x20)) | (0x80 <= code)
+}
+
+// A command that takes no write cycle: those below 0F but 0A and 0B.
+pub fn is_prompt(code: u8) -> bool
+    ensures { λ r. ⌜ r ≡ prompting (kind code) ⌝ }
+{
+    (code < 0x0F) & (code != 0x0A) & (code != 0x0B)
 }

@@ -1,6 +1,7 @@
 // The part and its FMAT input, by which the window has its width and height.
 ghost use mathlib.Core.Path.{_≡_};
-ghost use Rattle.parts.specs.Format.{width, height, bytes};
+ghost use Rattle.parts.specs.Format.{width, height, window, bytes};
+use picture::screen::Window;
 
 pub enum Format {
     Ef9366,
@@ -25,6 +26,17 @@ pub fn height_of(f: Format) -> u16
         Format::Ef9366 => 256,
         Format::FmatHigh => 512,
         Format::FmatLow => 256,
+    }
+}
+
+// The window, on a cyclic screen or not.
+pub fn window_of(f: Format, cyclic: bool) -> Window
+    ensures { λ r. ⌜ r ≡ window f cyclic ⌝ }
+{
+    Window {
+        width: width_of(f) as usize,
+        height: height_of(f) as usize,
+        cyclic: cyclic,
     }
 }
 

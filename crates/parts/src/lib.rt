@@ -1,8 +1,6 @@
 // The parts of the processor that need no register file: formats and their address lines, the command decoder,
-// what runs, the light pen's sequence, the order of the refusals.
+// the order of the refusals.
 // Proved: each function answers what specs/ says; no two positions share their address outputs. Assumes nothing.
 pub mod address;
 pub mod command;
 pub mod format;
-pub mod refusal;
-pub mod sequence;

@@ -1,7 +1,7 @@
 -- The laws of painting: what one written dot changes, and what a painted list changes.
 -- Assumes nothing.
 use mathlib.Core.Path.{_≡_, refl, sym, ap, ap₂, _∙_}
-use mathlib.Core.Logic.{⊎-elim, _⊎_, inl, inr}
+use mathlib.Core.Logic.{⊎-elim}
 use mathlib.Core.Bool.{Bool, true, false, cond, _||_, or-assoc, Bool·beq}
 use mathlib.Core.List.{List, [], _∷_, _++_, append-assoc, append-nil}
 use Prim.Native.Nat.{ℕ, zero, suc, _+_, _*_, _/_, _%_, _<_, _≤_}
@@ -13,7 +13,8 @@ use lib.Seq.{getD-set-same, getD-set-other, set-out, ext-getD}
 use borrow.Author.Tests.{eqb-true, eqb-false, ltb-true, ltb-false}
 use Rattle.picture.specs.Bit.{bitAt, withBit}
 use Rattle.picture.specs.Dot.{dotAt, setDot, paint, gathered, has, whole, solid, Bytes}
-use Rattle.picture.proofs.Table.{at, beq-eq}
+use Rattle.basis.proofs.Cases.{split}
+use Rattle.basis.proofs.Table.{at, beq-eq}
 use Rattle.picture.proofs.Bits.{bit-same, bit-other, bit-fits, bit-ext}
 
 -- one dot: the length stays, the dot is as written, every other dot and the bytes stay
@@ -26,10 +27,6 @@ unfolding dotAt setDot
 dot-same b d pic h =
     ap (bitAt (d % 8)) (getD-set-same pic (d / 8) (withBit b (d % 8) (getD pic (d / 8) 0)) 0 (omega arith))
     ∙ bit-same b (d % 8) (getD pic (d / 8) 0)
-
-pub split : (t : Bool) → (t ≡ true) ⊎ (t ≡ false)
-split true = inl refl
-split false = inr refl
 
 pub dot-other : (b : Bool) (d e : ℕ) (pic : List ℕ) → (e ≡ d → ⊥) → dotAt (setDot b d pic) e ≡ dotAt pic e
 unfolding dotAt setDot

@@ -1,7 +1,7 @@
-pub mod Bits
-pub mod Masks
-pub mod Table
-pub mod Dots
-pub mod Order
-pub mod Runs
-pub mod Screens
+pub mod Laws
+mod Bits
+mod Masks
+mod Dots
+mod Order
+mod Runs
+mod Screens

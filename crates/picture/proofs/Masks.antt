@@ -7,7 +7,8 @@ use native.Mathlib.Nat.{pow-suc, le-of-suc-le-suc, not-suc-le-zero, max-eq-right
 use native.Mathlib.Omega.{arith}
 use lib.Bits.{bitAnd, bitOr, or-step, and-step, or-zero-r, and-mask, shifted-half, shifted-even}
 use lib.Pow.{pow-lt, pow-pos, pow-mono, ones-lt, ones-split, high, shl-lt, shl-exact}
-use Rattle.picture.specs.Bit.{withBit, withBits}
+use Rattle.picture.specs.Bit.{withBit}
+use Rattle.picture.specs.Working.Runs.{withBits}
 use Rattle.picture.proofs.Bits.{half-join, odd-join}
 
 power-half : (k : ℕ) → 2 ^ suc k / 2 ≡ 2 ^ k

@@ -13,9 +13,11 @@ use lib.ListN.{length, getD}
 use lib.Seq.{getD-set-same, getD-set-other, set-out, set-set, set-comm}
 use borrow.Author.Tests.{eqb-true, eqb-false, ltb-true, ltb-false}
 use Rattle.picture.specs.Bit.{digit, withBit}
-use Rattle.picture.specs.Dot.{setDot, paint, gathered, upFrom}
+use Rattle.picture.specs.Dot.{setDot, paint, gathered}
+use Rattle.picture.specs.Working.Runs.{upFrom}
 use Rattle.picture.proofs.Bits.{half-join, odd-join, digit-lt}
-use Rattle.picture.proofs.Dots.{split, paint-append, paint-more, gathered-append}
+use Rattle.basis.proofs.Cases.{split}
+use Rattle.picture.proofs.Dots.{paint-append, paint-more, gathered-append}
 
 -- two bits of a number
 bit-swap : (b : Bool) (j k v : ℕ) → withBit b j (withBit b k v) ≡ withBit b k (withBit b j v)

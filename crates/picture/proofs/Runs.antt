@@ -8,8 +8,9 @@ use native.Mathlib.Nat.{add-suc}
 use native.Mathlib.Omega.{arith}
 use lib.ListN.{length, getD, set, length-set}
 use lib.Seq.{getD-set-same, set-set, set-getD}
-use Rattle.picture.specs.Bit.{withBit, withBits}
-use Rattle.picture.specs.Dot.{setDot, paint, upFrom}
+use Rattle.picture.specs.Bit.{withBit}
+use Rattle.picture.specs.Working.Runs.{withBits, upFrom}
+use Rattle.picture.specs.Dot.{setDot, paint}
 
 -- one dot of byte i, by its bit
 set-bit : (b : Bool) (i k : ℕ) (pic : List ℕ) → k < 8 → setDot b (8 * i + k) pic ≡ set pic i (withBit b k (getD pic i 0))

@@ -12,9 +12,10 @@ use lib.Bits.{bitAnd, and-mask}
 use lib.Dec.{eqb, ltb}
 use lib.Pow.{pow-pos}
 use borrow.Author.Tests.{eqb-true, ltb-true, ltb-false, lt-ltb, le-ltb}
+use Rattle.picture.specs.declared.screen.Window.{Window}
 use Rattle.picture.specs.Dot.{has}
 use Rattle.picture.specs.Screen.{Screen, Power, place, folded, dotNumber}
-use Rattle.picture.proofs.Dots.{split}
+use Rattle.basis.proofs.Cases.{split}
 
 one-dot : (d e : ℕ) → has d (e ∷ []) ≡ true → d ≡ e
 one-dot d e h = eqb-true d e (sym (or-false (eqb d e)) ∙ h)
@@ -34,17 +35,21 @@ pub power-some : {n : ℕ} → Power n → 0 < n
 power-some p = rw (p .1) (pow-pos (p .0))
 
 -- a position in the window has a dot in the picture
-pub in-window : (w h n x y : ℕ) → Screen w h n → x < w → y < h → y * w + x < 8 * n
-in-window w h n x y s hx hy = omega (arith, mul-le-mul-right w hy, suc-mul y w, mul-comm w h, s .area)
+pub in-window : (w : Window) (n x y : ℕ) → Screen w n → x < w .width → y < w .height → y * w .width + x < 8 * n
+in-window w n x y s hx hy =
+    omega (arith, mul-le-mul-right (w .width) hy, suc-mul y (w .width), mul-comm (w .width) (w .height), s .area)
 
 -- so do k positions of one row
-pub row-in : (w h n x y k : ℕ) → Screen w h n → x + k ≤ w → y < h → (y * w + x) + k ≤ 8 * n
-row-in w h n x y k s hx hy = omega (arith, mul-le-mul-right w hy, suc-mul y w, mul-comm w h, s .area)
+pub row-in : (w : Window) (n x y k : ℕ) → Screen w n → x + k ≤ w .width → y < w .height → (y * w .width + x) + k ≤ 8 * n
+row-in w n x y k s hx hy =
+    omega (arith, mul-le-mul-right (w .width) hy, suc-mul y (w .width), mul-comm (w .width) (w .height), s .area)
 
 -- the numbers that the code goes through, one row past the window's last included, are small
-pub row-small : (w h n y : ℕ) → Screen w h n → y ≤ h → (y * w ≤ 524288) × (w ≤ 524288)
-row-small w h n y s hy =
-    (omega (arith, mul-le-mul-right w hy, mul-comm w h, s .area, s .small), omega (arith, row-in w h n 0 0 w s (omega arith) (power-some (s .high)), s .small))
+pub row-small : (w : Window) (n y : ℕ) → Screen w n → y ≤ w .height → (y * w .width ≤ 524288) × (w .width ≤ 524288)
+row-small w n y s hy = (
+  omega (arith, mul-le-mul-right (w .width) hy, mul-comm (w .width) (w .height), s .area, s .small),
+  omega (arith, row-in w n 0 0 (w .width) s (omega arith) (power-some (s .high)), s .small),
+)
 
 -- and no other position of the window has it
 pub same-place : (w x y u v : ℕ) → x < w → u < w → y * w + x ≡ v * w + u → (x ≡ u) × (y ≡ v)
@@ -66,36 +71,41 @@ folded-own : (cyclic : Bool) (n p : ℕ) → p < n → folded cyclic n p ≡ p
 folded-own true n p h = mod-eq-of-lt h
 folded-own false n p h = omega (arith, mod-eq-of-lt h)
 
-module _ (cyclic : Bool) (w h x y : ℕ) where
-  pub place-in : folded cyclic w x < w → folded cyclic h y < h → place cyclic w h x y ≡ dotNumber w (folded cyclic w x) (folded cyclic h y) ∷ []
+module _ (w : Window) (x y : ℕ) where
+  -- where the dot sees the position
+  abbrev col : ℕ
+  col = folded (w .cyclic) (w .width) x
+
+  abbrev row : ℕ
+  row = folded (w .cyclic) (w .height) y
+
+  pub place-in : col < w .width → row < w .height → place w x y ≡ dotNumber (w .width) col row ∷ []
   unfolding place
-  place-in hx hy = rw (lt-ltb (folded cyclic w x) w hx, lt-ltb (folded cyclic h y) h hy)
+  place-in hx hy = rw (lt-ltb col (w .width) hx, lt-ltb row (w .height) hy)
 
   -- a position in the window has its own dot, cyclic or not
-  pub place-own : x < w → y < h → place cyclic w h x y ≡ dotNumber w x y ∷ []
+  pub place-own : x < w .width → y < w .height → place w x y ≡ dotNumber (w .width) x y ∷ []
   place-own hx hy =
-      let col = folded-own cyclic w x hx in
-      let row = folded-own cyclic h y hy in
-      place-in (rw col hx) (rw row hy) ∙ rw (col, row)
+      let own-x = folded-own (w .cyclic) (w .width) x hx in
+      let own-y = folded-own (w .cyclic) (w .height) y hy in
+      place-in (rw own-x hx) (rw own-y hy) ∙ rw (own-x, own-y)
 
-  pub place-beside : w ≤ folded cyclic w x → place cyclic w h x y ≡ []
+  pub place-beside : w .width ≤ col → place w x y ≡ []
   unfolding place
-  place-beside hx = rw (le-ltb (folded cyclic w x) w hx)
+  place-beside hx = rw (le-ltb col (w .width) hx)
 
-  pub place-above : h ≤ folded cyclic h y → place cyclic w h x y ≡ []
+  pub place-above : w .height ≤ row → place w x y ≡ []
   unfolding place
-  place-above hy = rw (le-ltb (folded cyclic h y) h hy) (⊎-elim (λ t. rw t) (λ t. rw t) (split (ltb (folded cyclic w x) w)))
+  place-above hy = rw (le-ltb row (w .height) hy) (⊎-elim (λ t. rw t) (λ t. rw t) (split (ltb col (w .width))))
 
   -- every dot that a position has is in the picture
-  pub place-fits : (n d : ℕ) → Screen w h n → has d (place cyclic w h x y) ≡ true → d < 8 * n
+  pub place-fits : (n d : ℕ) → Screen w n → has d (place w x y) ≡ true → d < 8 * n
   place-fits n d s e =
-      let col = folded cyclic w x in
-      let row = folded cyclic h y in
       ⊎-elim
       (λ t. ⊎-elim
-      (λ u. rw (one-dot d (row * w + col) (rw (place-in (ltb-true col w t) (ltb-true row h u)) at e))
-      (in-window w h n col row s (ltb-true col w t) (ltb-true row h u)))
-      (λ u. absurd (false≢true (rw (place-above (ltb-false row h u)) at e)))
-      (split (ltb row h)))
-      (λ t. absurd (false≢true (rw (place-beside (ltb-false col w t)) at e)))
-      (split (ltb col w))
+      (λ u. rw (one-dot d (row * w .width + col) (rw (place-in (ltb-true col (w .width) t) (ltb-true row (w .height) u)) at e))
+      (in-window w n col row s (ltb-true col (w .width) t) (ltb-true row (w .height) u)))
+      (λ u. absurd (false≢true (rw (place-above (ltb-false row (w .height) u)) at e)))
+      (split (ltb row (w .height))))
+      (λ t. absurd (false≢true (rw (place-beside (ltb-false col (w .width) t)) at e)))
+      (split (ltb col (w .width)))

@@ -17,8 +17,3 @@ bitAt (suc k) v = bitAt k (v / 2)
 abbrev pub withBit : Bool → ℕ → ℕ → ℕ
 withBit b zero v = v / 2 * 2 + digit b
 withBit b (suc k) v = withBit b k (v / 2) * 2 + v % 2
-
--- v with the m bits from bit k on made b
-abbrev pub withBits : Bool → ℕ → ℕ → ℕ → ℕ
-withBits b k zero v = v
-withBits b k (suc m) v = withBits b (suc k) m (withBit b k v)

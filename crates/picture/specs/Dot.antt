@@ -25,10 +25,6 @@ abbrev pub gathered : (ℕ → List ℕ) → ℕ → ℕ → List ℕ
 gathered dot i zero = []
 gathered dot i (suc k) = dot i ++ gathered dot (suc i) k
 
--- the n dots from dot d on
-abbrev pub upFrom : ℕ → ℕ → List ℕ
-upFrom d n = gathered (λ e. e ∷ []) d n
-
 -- d is in the list
 abbrev pub has : ℕ → List ℕ → Bool
 has d [] = false

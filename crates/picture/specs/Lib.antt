@@ -1,3 +1,4 @@
 pub mod Bit
 pub mod Dot
 pub mod Screen
+pub mod Working

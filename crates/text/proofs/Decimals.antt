@@ -9,7 +9,7 @@ use native.Mathlib.Omega.{arith}
 use lib.ListN.{length, length-append}
 use borrow.Author.Tests.{lt-ltb, le-ltb}
 use Rattle.text.specs.Numbers.{decimalBy, decimal}
-use Rattle.text.proofs.Cases.{less}
+use Rattle.basis.proofs.Cases.{less}
 
 -- a number below 10 is one digit
 last-digit : (k n : ℕ) → n < 10 → decimalBy (suc k) n ≡ (48 + n) ∷ []

@@ -11,7 +11,7 @@ use lib.ListN.{length}
 use borrow.Author.Tests.{eqb-true, le-ltb}
 use Rattle.text.specs.Pieces.{tab, attached, fieldsOf}
 use Rattle.text.specs.Numbers.{digitValue, areDigits}
-use Rattle.text.proofs.Cases.{split}
+use Rattle.basis.proofs.Cases.{split}
 
 -- a byte put before them leaves no fewer fields
 no-fewer : (b : ℕ) (ls : List (List ℕ)) → length ls ≤ length (attached b ls)

@@ -1,6 +1,5 @@
 -- The laws that crates above may cite.
 -- Assumes nothing.
-pub use Rattle.text.proofs.Cases.{split, both, less}
 pub use Rattle.text.proofs.Pieces.{Cuts, at-tabs, at-line-feeds, joins, found-cut, found-whole}
 pub use Rattle.text.proofs.Lines.{lines-end, lines-next}
 pub use Rattle.text.proofs.Fields.{fields-some, one-or-tab}

@@ -1,5 +1,4 @@
 pub mod Laws
-mod Cases
 mod Decimals
 mod Numbers
 mod Pieces

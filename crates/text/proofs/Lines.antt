@@ -8,7 +8,7 @@ use native.Mathlib.Omega.{arith}
 use lib.ListN.{length, take, drop, drop-of-length-le}
 use Rattle.text.specs.Pieces.{lineFeed, linesOf}
 use Rattle.text.specs.Found.{Found}
-use Rattle.text.proofs.Cases.{less}
+use Rattle.basis.proofs.Cases.{less}
 use Rattle.text.proofs.Pieces.{at-line-feeds, found-cut, found-whole}
 
 -- past the end there are no more

@@ -18,16 +18,13 @@ pub fn flattened(state: &State) -> Flat {
         xlp: state.xlp,
         ylp: state.ylp,
         code,
-        modes: format_number(state.format) | work | pen_bits(state.pen),
-        signals: signals(state),
+        modes: format_number(state.format) | work,
+        signals: signals(state) | pen_bits(state.pen),
     }
 }
 
-/// None when the flat value stands for no state.
+/// None when a number names no format, no kind of work or no pen sequence. What is not in use is not looked at.
 pub fn state_of(flat: &Flat) -> Option<State> {
-    if flat.signals > flat::SIGNALS {
-        return None;
-    }
     Some(State {
         format: format_of(flat.modes & flat::FORMAT)?,
         ctrl1: flat.ctrl1,
@@ -40,7 +37,7 @@ pub fn state_of(flat: &Flat) -> Option<State> {
         xlp: flat.xlp,
         ylp: flat.ylp,
         work: work_of(flat)?,
-        pen: pen_of(flat.modes & flat::PEN)?,
+        pen: pen_of(flat.signals & flat::PEN)?,
         vb: flat.signals & flat::VB != 0,
         flags: Flags {
             pen_end: flat.signals & flat::PEN_FLAG != 0,
@@ -48,6 +45,11 @@ pub fn state_of(flat: &Flat) -> Option<State> {
             ready: flat.signals & flat::READY_FLAG != 0,
         },
     })
+}
+
+/// Something stands in a place that is not in use.
+pub fn has_left_overs(flat: &Flat) -> bool {
+    state_of(flat).is_some_and(|state| flattened(&state) != *flat)
 }
 
 pub fn format_of(number: u8) -> Option<Format> {
@@ -80,14 +82,11 @@ fn work_fields(work: &Work) -> (u8, u16, u8) {
     }
 }
 
-/// A field that the work has no use for must be 0, or two flat values would stand for one state.
 fn work_of(flat: &Flat) -> Option<Work> {
-    let stepless = flat.code == 0 && flat.done == 0;
-    let clear_bits = flat.modes & (flat::CLEAR_IS_0C | flat::CLEAR_IS_OPEN);
     match flat.modes & flat::WORK {
-        flat::IDLE if stepless && clear_bits == 0 => Some(Work::Idle),
-        flat::STEPS if clear_bits == 0 => Some(Work::Steps { code: flat.code, done: flat.done }),
-        flat::CLEAR if stepless => Some(Work::Clear {
+        flat::IDLE => Some(Work::Idle),
+        flat::STEPS => Some(Work::Steps { code: flat.code, done: flat.done }),
+        flat::CLEAR => Some(Work::Clear {
             kind: if flat.modes & flat::CLEAR_IS_0C != 0 { ClearKind::Fill } else { ClearKind::Screen },
             open: flat.modes & flat::CLEAR_IS_OPEN != 0,
         }),

@@ -1,10 +1,12 @@
-//! The finer counts of a run: single codes and addresses, formats, lengths lent, sizes of grants, and the moments of VB
-//! calls and LPCK edges.
+//! The finer counts of a run: single codes and addresses, formats, lengths lent, sizes of grants, the moments of VB
+//! calls and LPCK edges, and what calls met left-overs.
 
-use crate::call::Call;
-use crate::convert::{format_number, state_of};
+use crate::call::{Call, KINDS};
+use crate::convert::{format_number, has_left_overs, state_of};
 use crate::draw::arguments::{bytes, TABLE_BYTES};
 use crate::draw::count;
+use crate::draw::left_over::{self, Doing};
+use crate::draw::single::Known;
 use crate::flat::Flat;
 use second::{Pen, State, Work};
 
@@ -31,6 +33,11 @@ pub struct Coverage {
     /// By the moment, and the level that is set.
     blankings: [[u64; 2]; MOMENTS],
     edges: [u64; MOMENTS],
+    /// Accepted beside each kind of left-over, by the kind of call and by VB.
+    left_over_calls: [[u64; KINDS.len()]; left_over::KINDS.len()],
+    left_over_levels: [[u64; 2]; left_over::KINDS.len()],
+    /// Beside left-overs of any kind, by number.
+    left_over_numbers: [u64; 256],
 }
 
 /// Of what runs, the pen's sequence and VB.
@@ -49,12 +56,18 @@ impl Default for Coverage {
             parts: [0; PARTS],
             blankings: [[0; 2]; MOMENTS],
             edges: [0; MOMENTS],
+            left_over_calls: [[0; KINDS.len()]; left_over::KINDS.len()],
+            left_over_levels: [[0; 2]; left_over::KINDS.len()],
+            left_over_numbers: [0; 256],
         }
     }
 }
 
 impl Coverage {
-    pub fn count(&mut self, flat: &Flat, call: &Call, number: u8) {
+    pub fn count(&mut self, flat: &Flat, call: &Call, number: u8, known: Known) {
+        if has_left_overs(flat) {
+            self.left_over_numbers[usize::from(number)] += 1;
+        }
         if number == 1 {
             return;
         }
@@ -62,8 +75,15 @@ impl Coverage {
             self.formats[usize::from(*format)] += 1;
             return;
         }
-        let state = state_of(flat).expect("a state that was not refused with 1");
+        // Whoever takes what stands for no state is told of elsewhere.
+        let Some(state) = state_of(flat) else {
+            return;
+        };
         self.formats[usize::from(format_number(state.format))] += 1;
+        if let (Known::LeftOver(kind), 0) = (known, number) {
+            self.left_over_calls[kind][call.kind()] += 1;
+            self.left_over_levels[kind][usize::from(state.vb)] += 1;
+        }
         match *call {
             Call::Write { address, value } => self.count_write(address, value, number),
             Call::Read { address: address @ 0..=15 } => self.read[usize::from(address)] += 1,
@@ -123,7 +143,21 @@ impl Coverage {
                 add(format!("VB set {to} when {name}"), self.blankings[moment][level]);
             }
         }
+        self.left_over_rows(&mut add);
         rows
+    }
+
+    fn left_over_rows(&self, add: &mut impl FnMut(String, u64)) {
+        for (kind, (name, doing, _)) in left_over::KINDS.iter().enumerate() {
+            // Fresh is handed no state, and a write is accepted only when nothing runs.
+            let never = if *doing == Doing::Idle { 1 } else { 2 };
+            let calls = KINDS.iter().zip(self.left_over_calls[kind]).skip(never);
+            calls.for_each(|(call, n)| add(format!("{call} accepted beside a left-over, {name}"), n));
+            let levels = LEVELS.iter().zip(self.left_over_levels[kind]);
+            levels.for_each(|(level, n)| add(format!("accepted beside a left-over, {name}, VB {level}"), n));
+        }
+        let numbers = self.left_over_numbers.iter().enumerate().take(9);
+        numbers.for_each(|(number, n)| add(format!("number {number} beside left-overs"), *n));
     }
 }
 

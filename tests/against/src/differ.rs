@@ -142,7 +142,7 @@ impl<'a, L: Card, M: Card> Differ<'a, L, M> {
         let number = outcome.model.number();
         self.tally.count(&state, &call, number, known);
         let promise = match known {
-            Known::Good => Some(Promise::Good),
+            Known::Good | Known::LeftOver(_) => Some(Promise::Good),
             Known::Refused(_) => Some(Promise::Bad),
             Known::Nothing => None,
         };

@@ -1,4 +1,4 @@
-//! What crosses the boundary, laid out as C lays it out.
+//! What the library and its callers hand over, laid out as `include/gdp.h` has it.
 
 /// The state in two 64-bit words.
 #[repr(C)]
@@ -102,21 +102,23 @@ pub const ALL_ONES: Flat = Flat {
 };
 
 // The fields of `modes`, from the lowest bit.
-pub const FORMAT: u8 = 0b0000_0011;
-pub const WORK: u8 = 0b0000_1100;
-pub const IDLE: u8 = 0 << 2;
-pub const STEPS: u8 = 1 << 2;
-pub const CLEAR: u8 = 2 << 2;
-pub const CLEAR_IS_0C: u8 = 1 << 4;
-pub const CLEAR_IS_OPEN: u8 = 1 << 5;
-pub const PEN: u8 = 0b1100_0000;
-pub const PEN_OFF: u8 = 0 << 6;
-pub const PEN_WAITING: u8 = 1 << 6;
-pub const PEN_OPEN: u8 = 2 << 6;
+pub const FORMAT: u8 = 0b0000_0111;
+pub const WORK: u8 = 0b0001_1000;
+pub const IDLE: u8 = 0 << 3;
+pub const STEPS: u8 = 1 << 3;
+pub const CLEAR: u8 = 2 << 3;
+pub const CLEAR_IS_0C: u8 = 1 << 5;
+pub const CLEAR_IS_OPEN: u8 = 1 << 6;
+pub const MODES_BIT_7: u8 = 1 << 7;
 
-// The bits of `signals`; the upper four are 0.
-pub const VB: u8 = 1 << 0;
-pub const PEN_FLAG: u8 = 1 << 1;
-pub const VB_FLAG: u8 = 1 << 2;
-pub const READY_FLAG: u8 = 1 << 3;
-pub const SIGNALS: u8 = 0b1111;
+// The fields of `signals`, likewise.
+pub const SIGNALS_BIT_0: u8 = 1 << 0;
+pub const VB: u8 = 1 << 1;
+pub const PEN: u8 = 0b0000_1100;
+pub const PEN_OFF: u8 = 0 << 2;
+pub const PEN_WAITING: u8 = 1 << 2;
+pub const PEN_OPEN: u8 = 2 << 2;
+pub const PEN_FLAG: u8 = 1 << 4;
+pub const VB_FLAG: u8 = 1 << 5;
+pub const READY_FLAG: u8 = 1 << 6;
+pub const SIGNALS_BIT_7: u8 = 1 << 7;

@@ -9,7 +9,7 @@ use second::{Answer, State};
 #[derive(Clone, Copy)]
 pub struct Model;
 
-/// Refusal 1: the state is impossible, or the flat value stands for none.
+/// Refusal 1: the state is impossible, or a number in it names nothing.
 const BAD_STATE: u8 = 1;
 
 impl Card for Model {
@@ -49,11 +49,13 @@ impl Card for Model {
     }
 }
 
-/// A flat value that stands for no state is refused before the call sees it.
+/// A flat value that stands for no state is refused before the call sees it. A refusal hands back what it was handed,
+/// and an accepted call nothing left over.
 fn answered(flat: Flat, call: impl FnOnce(&State) -> Answer) -> FlatAnswer {
     let Some(state) = state_of(&flat) else {
         return FlatAnswer { number: BAD_STATE, value: 0, state: flat };
     };
     let answer = call(&state);
-    FlatAnswer { number: answer.number, value: answer.value, state: flattened(&answer.state) }
+    let next = if answer.number == 0 { flattened(&answer.state) } else { flat };
+    FlatAnswer { number: answer.number, value: answer.value, state: next }
 }

@@ -3,7 +3,7 @@
 
 use crate::call::Call;
 use crate::case::Case;
-use crate::convert::format_of;
+use crate::convert::{flattened, format_of, state_of};
 use crate::draw::arguments::{bytes, TABLE_BYTES};
 use crate::flat::{Flat, CLEAR_IS_0C, CLEAR_IS_OPEN, FORMAT, PEN, WORK};
 
@@ -73,10 +73,11 @@ fn right_lengths(case: &Case) -> Vec<Case> {
     lent.map(|(picture, table)| case.clone().lending(picture, table)).collect()
 }
 
-/// Fields of the state that only change together.
-const LEAPS: [fn(&mut Flat); 6] = [
+/// Fields of the state that only change together; left-overs go first.
+const LEAPS: [fn(&mut Flat); 7] = [
+    |s| *s = state_of(s).map_or(*s, |state| flattened(&state)),
     |s| s.modes &= !FORMAT,
-    |s| s.modes &= !PEN,
+    |s| s.signals &= !PEN,
     |s| {
         s.modes &= !(WORK | CLEAR_IS_0C | CLEAR_IS_OPEN);
         (s.code, s.done) = (0, 0);

@@ -3,13 +3,14 @@
 use crate::call::{Call, KINDS};
 use crate::coverage::Coverage;
 use crate::draw::codes::{class_of, CLASSES};
+use crate::draw::left_over;
 use crate::draw::single::{causes, Known};
 use crate::flat::Flat;
 use std::fmt::{Display, Formatter, Result};
 
 /// A run this long must have met everything often enough.
 pub const WHOLE_RUN: u64 = 500_000;
-/// Each kind of call, number, class of command and cause of refusal 1.
+/// Each kind of call, number, class of command, cause of refusal 1, and left-over accepted and refused.
 const OFTEN: u64 = 100;
 /// Each row of the finer counts.
 const SOME: u64 = 20;
@@ -20,6 +21,8 @@ pub struct Tally {
     numbers: [u64; 256],
     commands: [u64; CLASSES.len()],
     causes: Vec<(&'static str, u64)>,
+    /// By the place in `left_over::KINDS`: accepted, and refused.
+    left_overs: [[u64; 2]; left_over::KINDS.len()],
     finer: Coverage,
 }
 
@@ -31,6 +34,7 @@ impl Default for Tally {
             numbers: [0; 256],
             commands: [0; CLASSES.len()],
             causes: causes().map(|name| (name, 0)).collect(),
+            left_overs: [[0; 2]; left_over::KINDS.len()],
             finer: Coverage::default(),
         }
     }
@@ -39,7 +43,7 @@ impl Default for Tally {
 impl Tally {
     pub fn count(&mut self, state: &Flat, call: &Call, number: u8, known: Known) {
         self.calls += 1;
-        self.finer.count(state, call, number);
+        self.finer.count(state, call, number, known);
         self.kinds[call.kind()] += 1;
         self.numbers[usize::from(number)] += 1;
         if let (Call::Write { address: 0, value }, 0) = (call, number) {
@@ -50,9 +54,17 @@ impl Tally {
                 .filter(|(_, row)| row.0 == class)
                 .for_each(|(n, _)| *n += 1);
         }
-        if let Known::Refused(cause) = known {
-            self.causes[cause].1 += 1;
+        match known {
+            Known::Refused(cause) => self.causes[cause].1 += 1,
+            Known::LeftOver(kind) => self.left_overs[kind][usize::from(number != 0)] += 1,
+            Known::Good | Known::Nothing => {}
         }
+    }
+
+    fn left_over_rows(&self) -> impl Iterator<Item = (String, u64)> + '_ {
+        left_over::KINDS.iter().zip(self.left_overs).flat_map(|((name, _, _), [accepted, refused])| {
+            [(format!("{name}: accepted"), accepted), (format!("{name}: refused"), refused)]
+        })
     }
 
     /// Sentences for what a whole run met too seldom; a shorter run owes nothing.
@@ -69,8 +81,9 @@ impl Tally {
         let commands =
             CLASSES.iter().zip(self.commands).filter_map(|((_, name), n)| seldom(name.to_string(), n));
         let causes = self.causes.iter().filter_map(|(name, n)| seldom(format!("refusal 1 for {name}"), *n));
+        let left_overs = self.left_over_rows().filter_map(|(what, n)| seldom(what, n));
         let finer = self.finer.rows().into_iter().filter_map(|(what, n)| below(SOME, what, n));
-        kinds.chain(numbers).chain(commands).chain(causes).chain(finer).collect()
+        kinds.chain(numbers).chain(commands).chain(causes).chain(left_overs).chain(finer).collect()
     }
 }
 
@@ -84,8 +97,10 @@ impl Display for Tally {
         }
         writeln!(out, "Commands accepted")?;
         rows(out, CLASSES.iter().map(|(_, name)| *name).zip(self.commands))?;
-        writeln!(out, "Causes of refusal 1, each planted by itself")?;
+        writeln!(out, "Causes of refusal 1, each planted alone or beside left-overs")?;
         rows(out, self.causes.iter().copied())?;
+        writeln!(out, "Left-overs, each planted in a good state")?;
+        rows(out, self.left_over_rows())?;
         let mut finer = self.finer.rows();
         finer.sort_by_key(|(_, count)| *count);
         writeln!(out, "Of {} finer rows, those met least", finer.len())?;
@@ -96,7 +111,7 @@ impl Display for Tally {
     }
 }
 
-fn rows(out: &mut Formatter, rows: impl Iterator<Item = (&'static str, u64)>) -> Result {
+fn rows(out: &mut Formatter, rows: impl Iterator<Item = (impl Display, u64)>) -> Result {
     for (name, count) in rows {
         writeln!(out, "{count:>10}  {name}")?;
     }

@@ -1,8 +1,30 @@
-//! The flat form loses nothing, and nothing else stands for a state.
+//! The flat form loses nothing; what is not in use changes no answer; a number that names nothing stands for no state.
 
-use against::convert::{flattened, state_of};
-use against::draw::{impossible, no_state, states};
+use against::call::Reply;
+use against::convert::{flattened, has_left_overs, state_of};
+use against::draw::{impossible, left_over, no_state, single, states};
+use against::flat::{Flat, FlatAnswer};
+use against::lent::Lent;
+use against::model::Model;
 use against::random::Random;
+use against::scene::{LONGEST_PICTURE, LONGEST_TABLE};
+use second::{fresh, ClearKind, Flags, Format, Pen, State, Work};
+
+/// As `include/gdp.h` says, worked out by hand.
+#[test]
+fn two_states_in_bytes() {
+    let flags = Flags { pen_end: true, vb_rise: false, ready: true };
+    let clear = Work::Clear { kind: ClearKind::Fill, open: true };
+    let state = State { work: clear, pen: Pen::Waiting, flags, x: 0x123, ..fresh(Format::Ef9365Low) };
+    let bytes = [0x23, 0x01, 0, 0, 0, 0, 0, 0, 0x11, 0, 0, 0, 0, 0, 0b0111_0010, 0b0101_0100];
+    assert_eq!(flattened(&state).bytes(), bytes);
+
+    let flags = Flags { pen_end: false, vb_rise: true, ready: false };
+    let steps = Work::Steps { code: 0x41, done: 47 };
+    let state = State { work: steps, flags, vb: true, ylp: 9, ..fresh(Format::Ef9365High) };
+    let bytes = [0, 0, 0, 0, 47, 0, 0, 0, 0x11, 0, 0, 0, 9, 0x41, 0b0000_1001, 0b0010_0010];
+    assert_eq!(flattened(&state).bytes(), bytes);
+}
 
 #[test]
 fn there_and_back() {
@@ -25,6 +47,49 @@ fn a_value_that_is_no_state() {
             assert_eq!(state_of(&planted(&mut random)), None, "{name}");
         }
         let any = no_state::bytes(&mut random);
-        assert!(state_of(&any).is_none_or(|state| flattened(&state) == any));
+        let state = state_of(&any);
+        assert!(state.is_none_or(|state| state_of(&flattened(&state)) == Some(state)));
+    }
+}
+
+#[test]
+fn what_is_left_over_stands_for_nothing() {
+    let mut random = Random::new(18);
+    for _ in 0..2_000 {
+        for (kind, (name, _, _)) in left_over::KINDS.iter().enumerate() {
+            let (state, flat) = left_over::planted(&mut random, kind);
+            assert_eq!(state_of(&flat), Some(state), "{name}");
+            assert!(has_left_overs(&flat) && !has_left_overs(&flattened(&state)), "{name}");
+            let bad = flattened(&impossible::CAUSES[kind].1(&mut random));
+            assert_eq!(state_of(&left_over::scattered(&mut random, bad)), state_of(&bad), "{name}");
+        }
+    }
+}
+
+/// The model answers for bytes with left-overs as for those without, but that a refusal hands them back as they came.
+#[test]
+fn what_is_left_over_changes_no_answer() {
+    let mut random = Random::new(19);
+    let (mut picture, mut table) = (Lent::new(LONGEST_PICTURE), Lent::new(LONGEST_TABLE));
+    for _ in 0..500 {
+        picture.refill(&mut random);
+        table.refill(&mut random);
+        for (kind, (name, _, _)) in left_over::KINDS.iter().enumerate() {
+            let (state, flat) = left_over::planted(&mut random, kind);
+            let call = single::call(&mut random, &flat);
+            let (lent, listed) = call.lends().unwrap_or((0, 0));
+            let found = call.made(&Model, flat, picture.to_library(lent), table.to_library(listed));
+            let clean = flattened(&state);
+            let wanted = call.made(&Model, clean, picture.to_model(lent), table.to_model(listed));
+            assert_eq!(found, handed_back(wanted, flat), "{name}: {call}");
+            assert!(picture.fault().is_none() && table.fault().is_none(), "{name}: {call}");
+        }
+    }
+}
+
+fn handed_back(reply: Reply, flat: Flat) -> Reply {
+    match reply {
+        Reply::Answer(answer) if answer.number != 0 => Reply::Answer(FlatAnswer { state: flat, ..answer }),
+        accepted => accepted,
     }
 }

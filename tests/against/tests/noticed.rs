@@ -5,7 +5,9 @@ use against::card::Card;
 use against::case::Case;
 use against::differ::compare;
 use against::difference::Difference;
-use against::flat::{Flat, FlatAddress, FlatAnswer, READY_FLAG, SIGNALS, VB};
+use against::flat::{
+    Flat, FlatAddress, FlatAnswer, CLEAR, CLEAR_IS_OPEN, FORMAT, READY_FLAG, SIGNALS_BIT_0, STEPS, VB, WORK,
+};
 use against::lent::Part;
 use against::model::Model;
 use against::tally::{Tally, WHOLE_RUN};
@@ -26,8 +28,16 @@ enum Fault {
     Table,
     /// The MSL lines of FMAT low turned over.
     Lines,
-    /// A flat value that stands for no state is mended.
+    /// A format's number above 2 read as FMAT low.
     Mended,
+    /// A bit that is not in use refused with 1.
+    Strict,
+    /// An open frame looked at where no clear runs.
+    Looking,
+    /// A left-over code handed back by an accepted call.
+    Keeping,
+    /// A left-over progress taken out of what a refusal hands back.
+    Tidying,
     /// A fresh card whose ready flag is set.
     Fresh,
     /// An impossible state taken as good.
@@ -57,8 +67,14 @@ impl Card for Wrong {
 
     fn read(&self, state: Flat, address: u8) -> FlatAnswer {
         let mut answer = Model.read(state, address);
-        if self.0 == Fault::State && address == 13 && answer.number == 0 {
-            answer.state.xlp = state.xlp;
+        let inside = state.modes & CLEAR_IS_OPEN != 0 && state.modes & WORK != CLEAR;
+        match self.0 {
+            Fault::State if address == 13 && answer.number == 0 => answer.state.xlp = state.xlp,
+            Fault::Looking if inside && state.signals & VB != 0 => {
+                return FlatAnswer { number: 1, value: 0, state };
+            }
+            Fault::Tidying if answer.number == 4 && state.modes & WORK != STEPS => answer.state.done = 0,
+            _ => {}
         }
         answer
     }
@@ -91,8 +107,12 @@ impl Card for Wrong {
 
     fn lpck(&self, state: Flat, h: u16, v: u16) -> FlatAnswer {
         match self.0 {
-            Fault::Mended if state.signals > SIGNALS => {
-                Model.lpck(Flat { signals: state.signals & SIGNALS, ..state }, h, v)
+            Fault::Mended if state.modes & FORMAT > 2 => {
+                Model.lpck(Flat { modes: state.modes & !FORMAT | 2, ..state }, h, v)
+            }
+            Fault::Keeping => {
+                let answer = Model.lpck(state, h, v);
+                FlatAnswer { state: Flat { code: state.code, ..answer.state }, ..answer }
             }
             Fault::Lenient => Model.lpck(Flat { x: state.x & 0x0FFF, ..state }, h, v),
             _ => Model.lpck(state, h, v),
@@ -101,8 +121,12 @@ impl Card for Wrong {
 
     fn address(&self, state: Flat) -> FlatAddress {
         let mut lines = Model.address(state);
-        if self.0 == Fault::Lines && lines.number == 0 && state.modes & 3 == 2 {
-            lines.msl ^= 0x0F;
+        match self.0 {
+            Fault::Lines if lines.number == 0 && state.modes & FORMAT == 2 => lines.msl ^= 0x0F,
+            Fault::Strict if state.signals & SIGNALS_BIT_0 != 0 => {
+                return FlatAddress { number: 1, low: 0, high: 0, msl: 0 };
+            }
+            _ => {}
         }
         lines
     }
@@ -200,10 +224,29 @@ fn wrong_address_outputs() {
 }
 
 #[test]
-fn a_mended_state() {
-    let told = noticed(Fault::Mended);
-    assert!(matches!(told.case.call, Call::Lpck { h: 0, v: 0 }), "{told}");
-    assert_eq!(told.case.state.signals, 0x10, "{told}");
+fn a_number_that_names_nothing_taken_as_one_that_does() {
+    told_as(&noticed(Fault::Mended), "lpck 00000000000000001100000000000300 0 0");
+}
+
+#[test]
+fn a_left_over_refused() {
+    told_as(&noticed(Fault::Strict), "address 00000000000000001100000000000001");
+}
+
+#[test]
+fn a_left_over_looked_at() {
+    // VB high, and the bit of an open frame where nothing runs.
+    told_as(&noticed(Fault::Looking), "read 00000000000000001100000000004002 00");
+}
+
+#[test]
+fn a_left_over_that_stays() {
+    told_as(&noticed(Fault::Keeping), "lpck 00000000000000001100000000010000 0 0");
+}
+
+#[test]
+fn a_left_over_that_a_refusal_takes_away() {
+    told_as(&noticed(Fault::Tidying), "read 00000000010000001100000000000000 04");
 }
 
 #[test]
@@ -217,14 +260,20 @@ fn an_impossible_state_taken_as_good() {
 }
 
 /// Where both cards share the fault, what was planted in the state still tells.
+fn noticed_of_both(fault: Fault, words: &str) {
+    let told = compare(&Wrong(fault), &Wrong(fault), SEED, WHOLE_RUN).err().expect("the fault is noticed");
+    assert!(told.to_string().contains(words), "{told}");
+    let case = repeated(&told);
+    assert!(!case.is_settled(&case.play(&Wrong(fault), &Wrong(fault))));
+    assert!(case.is_settled(&case.play(&Model, &Model)));
+}
+
 #[test]
 fn a_fault_of_both_cards() {
-    let told = compare(&Wrong(Fault::Lenient), &Wrong(Fault::Lenient), SEED, WHOLE_RUN).err();
-    let told = told.expect("the fault is noticed");
-    assert!(told.to_string().contains("Both agree, but a cause of refusal 1"), "{told}");
-    let case = repeated(&told);
-    assert!(!case.is_settled(&case.play(&Wrong(Fault::Lenient), &Wrong(Fault::Lenient))));
-    assert!(case.is_settled(&case.play(&Model, &Model)));
+    noticed_of_both(Fault::Lenient, "Both agree, but a cause of refusal 1 was planted");
+    noticed_of_both(Fault::Mended, "Both agree, but a cause of refusal 1 was planted");
+    noticed_of_both(Fault::Strict, "Both agree, but the state was drawn good");
+    noticed_of_both(Fault::Looking, "Both agree, but the state was drawn good");
 }
 
 #[test]
@@ -232,9 +281,16 @@ fn a_whole_run_that_met_nothing_says_so() {
     let mut tally = Tally::default();
     assert!(tally.gaps().is_empty());
     tally.calls = WHOLE_RUN;
-    for row in ["refusal 1 for 0E running", "command FF accepted", "address F read", "a table of no length"] {
+    let calls = ["command FF accepted", "address F read", "a table of no length"];
+    let refusals =
+        ["refusal 1 for 0E running", "refusal 1 for format number 7", "refusal 1 for pen number 3"];
+    let left_overs = ["idle with a code: accepted", "a clear with a progress: refused"];
+    let finer = ["LPCK accepted beside a left-over, steps with an open frame", "number 8 beside left-overs"];
+    for row in calls.iter().chain(&refusals).chain(&left_overs).chain(&finer) {
         assert!(tally.gaps().iter().any(|gap| gap.contains(row)), "{row}");
     }
+    let never = "register write accepted beside a left-over, steps with 0C set";
+    assert!(tally.gaps().iter().all(|gap| !gap.contains(never)));
 }
 
 #[test]

@@ -13,14 +13,16 @@ pub enum Workload {
     Characters { csize: u8 },
     Blocks,
     OneCycle,
+    OneCycleLetters,
     Writes,
     Reads,
+    StatusBusy,
     Clears,
     Morning,
 }
 
 /// By name, what it is, and the unit its time is given for.
-pub const ALL: [(&str, Workload, &str); 12] = [
+pub const ALL: [(&str, Workload, &str); 14] = [
     ("long-vectors", Workload::LongVectors, "cycle"),
     ("dotted", Workload::Dotted, "cycle"),
     ("short-vectors", Workload::ShortVectors, "vector"),
@@ -29,8 +31,10 @@ pub const ALL: [(&str, Workload, &str); 12] = [
     ("csize-00", Workload::Characters { csize: 0x00 }, "cycle"),
     ("blocks", Workload::Blocks, "cycle"),
     ("one-cycle", Workload::OneCycle, "call"),
+    ("one-cycle-letters", Workload::OneCycleLetters, "call"),
     ("write", Workload::Writes, "call"),
     ("read", Workload::Reads, "call"),
+    ("status-busy", Workload::StatusBusy, "call"),
     ("clear", Workload::Clears, "clear"),
     ("morning", Workload::Morning, "morning"),
 ];
@@ -45,6 +49,8 @@ pub struct Scene<R> {
 
 const OCTANTS: [(u8, u16, u16); 4] = [(0x11, 100, 0), (0x13, 400, 0), (0x15, 100, 255), (0x17, 400, 255)];
 const REGISTERS: [u8; 8] = [1, 2, 3, 5, 7, 9, 11, 8];
+/// How often a host looks at STATUS while a command runs.
+const LOOKS: u64 = 16;
 const CHARACTERS: [u8; 10] = [0x41, 0x52, 0x33, 0x6B, 0x20, 0x7F, 0x2B, 0x58, 0x65, 0x39];
 
 impl Workload {
@@ -66,9 +72,9 @@ impl Workload {
         match self {
             Workload::LongVectors | Workload::OneCycle => octants(0),
             Workload::Dotted => octants(3),
-            Workload::Characters { csize } => {
-                CHARACTERS.iter().enumerate().map(|(i, code)| at(csize, 5 + 37 * i as u16, *code)).collect()
-            }
+            Workload::Characters { csize } => letters(csize),
+            Workload::OneCycleLetters => letters(0x11),
+            Workload::StatusBusy => octants(0).into_iter().chain(letters(0x11).into_iter().take(8)).collect(),
             Workload::Blocks => {
                 [(3, 0x0A), (100, 0x0B), (200, 0x0A), (301, 0x0B)].map(|(x, code)| at(0x44, x, code)).into()
             }
@@ -86,6 +92,8 @@ impl Workload {
             Workload::Characters { csize: 0 } => 10 * 12_288,
             Workload::Characters { csize } => 10 * 48 * u64::from(csize >> 4) * u64::from(csize & 15),
             Workload::Blocks => 2 * (48 + 16) * 16,
+            Workload::OneCycleLetters => 10 * 48,
+            Workload::StatusBusy => 16 * LOOKS,
             Workload::Writes | Workload::Reads => 16 * REGISTERS.len() as u64,
             Workload::Clears | Workload::Morning => 1,
         }
@@ -93,7 +101,9 @@ impl Workload {
 
     pub fn pass<R: Runner>(self, scene: &mut Scene<R>) {
         match self {
-            Workload::OneCycle => singly(scene),
+            Workload::OneCycle => singly::<R, 255>(scene),
+            Workload::OneCycleLetters => singly::<R, 48>(scene),
+            Workload::StatusBusy => scene.cards.iter_mut().for_each(looks),
             Workload::ShortVectors => short_vectors(scene),
             Workload::Writes => (0..16).for_each(|value| writes(&mut scene.cards[0], value)),
             Workload::Reads => (0..16).for_each(|_| reads(&mut scene.cards[0])),
@@ -129,16 +139,20 @@ fn at<R: Runner>(csize: u8, x: u16, code: u8) -> R {
     set(set(R::fresh(), &place), &[(0, code)])
 }
 
+fn letters<R: Runner>(csize: u8) -> Vec<R> {
+    CHARACTERS.iter().enumerate().map(|(i, code)| at(csize, 5 + 37 * i as u16, *code)).collect()
+}
+
 fn run_out<R: Runner>(scene: &mut Scene<R>) {
     for card in &scene.cards {
         black_box(card.clone()).grant(65_535, &mut scene.picture, &scene.table);
     }
 }
 
-fn singly<R: Runner>(scene: &mut Scene<R>) {
+fn singly<R: Runner, const CYCLES: usize>(scene: &mut Scene<R>) {
     for card in &scene.cards {
         let mut card = card.clone();
-        for _ in 0..255 {
+        for _ in 0..CYCLES {
             card.grant(1, &mut scene.picture, &scene.table);
         }
     }
@@ -162,5 +176,12 @@ fn writes<R: Runner>(card: &mut R, value: u8) {
 fn reads<R: Runner>(card: &mut R) {
     for address in REGISTERS {
         black_box(card.read(black_box(address)));
+    }
+}
+
+/// STATUS, by a host that waits for the command to end.
+fn looks<R: Runner>(card: &mut R) {
+    for _ in 0..LOOKS {
+        black_box(card.read(black_box(0)));
     }
 }

@@ -1,9 +1,10 @@
-//! What is drawn at random: states, the causes of refusal 1, and calls.
+//! What is drawn at random: states, the causes of refusal 1, left-overs, and calls.
 
 pub mod arguments;
 pub mod codes;
 pub mod count;
 pub mod impossible;
+pub mod left_over;
 pub mod no_state;
 pub mod run;
 pub mod single;

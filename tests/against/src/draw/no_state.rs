@@ -1,60 +1,37 @@
-//! Flat values that stand for no state: each cause planted by itself, and bytes at random.
+//! Flat values that stand for no state, as a number in them names nothing: each planted by itself; and bytes at random.
 
-use super::states::{good, registers, running, settled};
-use super::{codes, count};
+use super::count;
+use super::states::{good, registers, settled};
 use crate::convert::flattened;
 use crate::flat::{self, Flat};
 use crate::random::Random;
-use second::{ClearKind, State, Work};
+use second::{State, Work};
 
 type Planted = fn(&mut Random) -> Flat;
 
-pub const CAUSES: [(&str, Planted); 12] = [
-    ("format number 3", |random| with_modes(good(random), flat::FORMAT)),
-    ("work number 3", |random| with_modes(good(random), flat::WORK)),
-    ("pen number 3", |random| with_modes(good(random), flat::PEN)),
-    ("signals above 15", |random| with_signals(random.among(1, 15) as u8, good(random))),
-    ("idle with a code", |random| Flat { code: random.among(1, 255) as u8, ..idle(random) }),
-    ("idle with a progress", |random| Flat { done: progress(random), ..idle(random) }),
-    ("idle with 0C set", |random| with_bits(idle(random), flat::CLEAR_IS_0C)),
-    ("idle with an open frame", |random| with_bits(idle(random), flat::CLEAR_IS_OPEN)),
-    ("steps with 0C set", |random| with_bits(steps(random), flat::CLEAR_IS_0C)),
-    ("steps with an open frame", |random| with_bits(steps(random), flat::CLEAR_IS_OPEN)),
-    ("a clear with a code", |random| Flat { code: random.among(1, 255) as u8, ..clear(random) }),
-    ("a clear with a progress", |random| Flat { done: progress(random), ..clear(random) }),
+pub const CAUSES: [(&str, Planted); 7] = [
+    ("format number 3", |random| with_format(random, 3)),
+    ("format number 4", |random| with_format(random, 4)),
+    ("format number 5", |random| with_format(random, 5)),
+    ("format number 6", |random| with_format(random, 6)),
+    ("format number 7", |random| with_format(random, 7)),
+    ("work number 3", with_work_3),
+    ("pen number 3", with_pen_3),
 ];
 
-fn with_modes(state: State, bits: u8) -> Flat {
-    with_bits(flattened(&state), bits)
+fn with_format(random: &mut Random, number: u8) -> Flat {
+    let state = flattened(&good(random));
+    Flat { modes: state.modes & !flat::FORMAT | number, ..state }
 }
 
-fn with_bits(state: Flat, bits: u8) -> Flat {
-    Flat { modes: state.modes | bits, ..state }
+fn with_work_3(random: &mut Random) -> Flat {
+    let state = flattened(&good(random));
+    Flat { modes: state.modes | flat::WORK, ..state }
 }
 
-fn with_signals(upper: u8, state: State) -> Flat {
-    let state = flattened(&state);
-    Flat { signals: state.signals | upper << 4, ..state }
-}
-
-fn progress(random: &mut Random) -> u16 {
-    random.pick(&[1, 47, 65_535])
-}
-
-fn idle(random: &mut Random) -> Flat {
-    flattened(&settled(registers(random)))
-}
-
-fn steps(random: &mut Random) -> Flat {
-    let code = codes::stepping(random);
-    let registers = registers(random);
-    flattened(&running(random, registers, code))
-}
-
-fn clear(random: &mut Random) -> Flat {
-    let kind = random.pick(&[ClearKind::Screen, ClearKind::Fill]);
-    let work = Work::Clear { kind, open: random.flag() };
-    flattened(&settled(State { work, ..registers(random) }))
+fn with_pen_3(random: &mut Random) -> Flat {
+    let state = flattened(&good(random));
+    Flat { signals: state.signals | flat::PEN, ..state }
 }
 
 /// Any sixteen bytes; half of them tamed so that more than the first test is reached.
@@ -66,7 +43,10 @@ pub fn bytes(random: &mut Random) -> Flat {
         state.ctrl1 &= 0x7F;
         state.ctrl2 &= 0x0F;
         state.xlp &= 0xFD;
-        state.signals &= flat::SIGNALS;
+        let named = random.below(3) as u8 | random.pick(&[flat::IDLE, flat::STEPS, flat::CLEAR]);
+        state.modes = state.modes & !(flat::FORMAT | flat::WORK) | named;
+        let pen = random.pick(&[flat::PEN_OFF, flat::PEN_WAITING, flat::PEN_OPEN]);
+        state.signals = state.signals & !flat::PEN | pen;
     }
     state
 }
@@ -89,7 +69,7 @@ fn any(random: &mut Random) -> Flat {
     }
 }
 
-/// A good state with one bit turned over: mostly good still, or impossible, or no state.
+/// A good state with one bit turned over: mostly good still, or impossible, or no state, or something left over.
 pub fn one_bit_off(random: &mut Random) -> Flat {
     let mut state = flattened(&good(random));
     let bit = random.below(8) as u8;

@@ -1,7 +1,7 @@
 //! Single calls: a state drawn by itself, and what is known of it before either card is asked.
 
 use super::arguments::{self, WrongLengths};
-use super::{impossible, no_state, states};
+use super::{impossible, left_over, no_state, states};
 use crate::call::Call;
 use crate::convert::{flattened, state_of};
 use crate::flat::Flat;
@@ -12,6 +12,8 @@ use second::{fresh, Format, State};
 #[derive(Clone, Copy, PartialEq, Eq, Debug)]
 pub enum Known {
     Good,
+    /// Good, with a left-over of the kind at this place of `left_over::KINDS`.
+    LeftOver(usize),
     /// Refused 1 for the cause at this place of `causes`.
     Refused(usize),
     Nothing,
@@ -25,21 +27,29 @@ pub fn causes() -> impl Iterator<Item = &'static str> {
 
 pub fn state(random: &mut Random) -> (Flat, Known) {
     match random.below(20) {
-        0..=6 => (flattened(&states::good(random)), Known::Good),
-        7..=14 => planted(random),
-        15 | 16 => (no_state::one_bit_off(random), Known::Nothing),
+        0..=4 => (flattened(&states::good(random)), Known::Good),
+        5..=9 => with_left_over(random),
+        10..=15 => refused(random),
+        16 => (no_state::one_bit_off(random), Known::Nothing),
         17 | 18 => (no_state::around_the_count(random), Known::Nothing),
         _ => (no_state::bytes(random), Known::Nothing),
     }
 }
 
-fn planted(random: &mut Random) -> (Flat, Known) {
+fn with_left_over(random: &mut Random) -> (Flat, Known) {
+    let kind = random.below(left_over::KINDS.len() as u64) as usize;
+    (left_over::planted(random, kind).1, Known::LeftOver(kind))
+}
+
+/// A cause of refusal 1 by itself, or half the time beside left-overs.
+fn refused(random: &mut Random) -> (Flat, Known) {
     let count = impossible::CAUSES.len() + no_state::CAUSES.len();
     let cause = random.below(count as u64) as usize;
     let flat = match cause.checked_sub(impossible::CAUSES.len()) {
         None => flattened(&impossible::CAUSES[cause].1(random)),
         Some(place) => no_state::CAUSES[place].1(random),
     };
+    let flat = if random.flag() { left_over::scattered(random, flat) } else { flat };
     (flat, Known::Refused(cause))
 }
 

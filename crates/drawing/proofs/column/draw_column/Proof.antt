@@ -28,7 +28,7 @@ draw-band-requires : tie.Need-draw-band-requires Inv-loop μ-loop
 draw-band-requires c κs =
     let at = c .before .before .before .before .before .before in
     let s = at .before .before .before in
-    let m = c .before .before .least .ensures .1 in
+    let m = c .before .before .least .ensures in
     (still (at .loop .inv .3) (s .pre .0), (s .pre .1 .3 .inside, omega arith, s .pre .1 .0 .rows128))
 
 loop-less : tie.Need-loop-less Inv-loop μ-loop
@@ -37,7 +37,7 @@ loop-less c =
     let at = band .before .before .before .before in
     let s = at .before .before .before in
     let left : 0 < s .args .b .rows - at .loop .v = omega (arith, band .before .before .if1 .taken) in
-    omega (arith, band .least .ensures .3 (s .pre .1 .0 .q0) left)
+    omega (arith, band .least .ensures, s .pre .1 .0 .q0)
 
 loop-again : tie.Need-loop-again Inv-loop μ-loop
 loop-again c =
@@ -52,12 +52,12 @@ loop-again c =
     let left : 0 < a .b .rows - l .v = omega (arith, inner) in
     let start = l .inv .2 inner in
     let ink = c .before .before .before .before .has-ink .ensures in
-    let rows = band-rows (a .turned) (a .t) (a .b) (a .glyph .now) (a .c) (l .row) (s .pre .1 .3 .inside) ink start (least .0) (omega arith) (l .pic) in (
+    let rows = band-rows (a .turned) (a .t) (a .b) (a .glyph .now) (a .c) (l .row) {m = m} (s .pre .1 .3 .inside) ink start (omega arith) (omega arith) (l .pic) in (
       omega arith,
-      omega (arith, least .3 (s .pre .1 .0 .q0) left),
+      omega (arith, s .pre .1 .0 .q0),
       λ h. let below : l .v + m < a .b .rows = h in
           let short : m < a .b .rows - l .v = omega arith in
-          simp (add-mul, one-mul) (omega (arith, start, least .2 short)),
+          simp (add-mul, one-mul) (omega (arith, start)),
       further (l .inv .3) m refl refl (c .before .before .draw-band .ensures ∙ rows),
     )
 

@@ -1,7 +1,7 @@
 -- `drawing::tip::touch_box` meets its contract: the dots of the box, or none.
 -- Assumes nothing.
 use borrow.Author.Needs.{needs}
-use Rattle.drawing.specs.Run.{markBox}
+use Rattle.drawing.specs.Working.Cycle.{markBox}
 use Rattle.drawing.proofs.tip.touch_box.Statement.{statement}
 use Rattle.drawing.proofs.tip.touch_box.Tie as tie
 

@@ -3,7 +3,7 @@
 use Prim.Native.Nat.{_%_}
 use lib.ListN.{getD}
 use borrow.Author.Tests.{lt-ltb, le-ltb}
-use Rattle.picture.proofs.Bits.{bit-shift}
+use Rattle.picture.proofs.Laws.{bit-shift}
 use Rattle.motion.specs.Glyph.{inked}
 use borrow.Author.Needs.{needs}
 use Rattle.motion.proofs.glyph.has_ink.Statement.{statement}

@@ -2,9 +2,8 @@
 -- Assumes nothing.
 use Prim.Native.Nat.{_%_}
 use native.Mathlib.Omega.{arith}
-use Rattle.picture.proofs.Bits.{bit-shift}
-use Rattle.picture.proofs.Screens.{power-some, fold-mask, folded-lt}
-use Rattle.motion.specs.LineType.{dashed}
+use Rattle.picture.proofs.Laws.{bit-shift, power-some, fold-mask, folded-lt}
+use Rattle.motion.specs.Working.Masks.{dashed}
 use Rattle.motion.proofs.line_type.is_on.Statement.{statement}
 use Rattle.motion.proofs.line_type.is_on.Tie as tie
 

@@ -5,7 +5,7 @@ use Prim.Native.Nat.{_*_, _≤_}
 use native.Mathlib.Nat.{zero-mul}
 use native.Mathlib.Omega.{arith}
 use borrow.Author.Needs.{needs}
-use Rattle.motion.specs.Vector.{errorOf}
+use Rattle.motion.specs.Working.Strokes.{errorOf}
 use Rattle.motion.proofs.Offsets.{error-lt}
 use Rattle.motion.proofs.Vectors.{product-most}
 use Rattle.motion.proofs.vector.error_at.Statement.{statement}

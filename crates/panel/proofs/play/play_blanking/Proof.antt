@@ -2,21 +2,19 @@
 -- Assumes nothing.
 use borrow.Author.Needs.{needs}
 use native.Mathlib.Omega.{arith}
-use Rattle.panel.proofs.Answers.{blanked-small}
+use Rattle.rules.specs.Calls.{memory}
+use Rattle.panel.proofs.Answers.{blank-small}
 use Rattle.panel.proofs.Steps.{blanking-stepped}
 use Rattle.panel.proofs.play.play_blanking.Statement.{statement}
 use Rattle.panel.proofs.play.play_blanking.Tie as tie
 
 put-refusal-requires : tie.Need-put-refusal-requires
 put-refusal-requires c κs =
-    let call = c .before .before .before .before in
-    let s = call .before .before .before .before in
-    let a = s .args in
-    (s .pre, rw (call .set-vb .ensures .answers) (omega (arith, blanked-small (a .s) (a .level) (a .pic .now))))
+    let a = c .before .before .before .before .before .before .before .before .args in
+    (c .before .before .before .before .before .before .before .before .pre, rw (c .before .before .before .before .set-vb .ensures .answers) (omega (arith, blank-small (a .s) (a .level) (memory (a .pic .now)))))
 
 returns : tie.Need-returns
-returns c =
-    blanking-stepped (c .before .before .before .before .before .before .before .set-vb .ensures) (c .before .before .put-refusal .ensures)
+returns c tidy t = blanking-stepped tidy t (c .before .before .before .before .before .before .before .set-vb .ensures) (c .before .before .put-refusal .ensures)
 
 pub play-blanking-spec : {M : Type 1} → statement M
 play-blanking-spec =

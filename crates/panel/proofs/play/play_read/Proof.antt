@@ -11,29 +11,19 @@ use Rattle.panel.proofs.play.play_read.Tie as tie
 
 put-r-requires : tie.Need-put-r-requires
 put-r-requires c κs =
-    let call = c .before .before .before .before in
-    let s = call .before .before in
-    (read-address (s .args .s) (s .args .address) (rw (call .read .ensures) at (c .before .if1 .taken)), omega (arith, s .pre .room))
+    (read-address (c .before .before .before .before .before .before .args .s) (c .before .before .before .before .before .before .args .address) (rw (c .before .before .before .before .read .ensures) at (c .before .if1 .taken)), omega (arith, c .before .before .before .before .before .before .pre .room))
 
 returns : tie.Need-returns
-returns c p =
-    let on = c .before .before .before .before in
-    let call = on .before .before .before in
-    let put = c .before .before .put-r .ensures in
-    let short = lineR-length (call .before .before .args .address) (call .read .result .value) in
-    read-stepped p (call .read .ensures) (rw (answer-given _ _ _ (on .if1 .taken)) (wrote-within (omega (arith, short)) put))
+returns c tidy p t =
+    let short = lineR-length (c .before .before .before .before .before .before .before .before .before .args .address) (c .before .before .before .before .before .before .before .read .result .value) in
+    read-stepped tidy p t (c .before .before .before .before .before .before .before .read .ensures) (rw (answer-given _ _ _ (c .before .before .before .before .if1 .taken)) (wrote-within (omega (arith, short)) (c .before .before .put-r .ensures)))
 
 put-e-requires : tie.Need-put-e-requires
 put-e-requires c κs =
-    let call = c .before .before .before .before in
-    let s = call .before .before in
-    (s .pre .line, rw (call .read .ensures) (omega (arith, read-small (s .args .s) (s .args .address))), s .pre .room)
+    (c .before .before .before .before .before .before .pre .line, rw (c .before .before .before .before .read .ensures) (omega (arith, read-small (c .before .before .before .before .before .before .args .s) (c .before .before .before .before .before .before .args .address))), c .before .before .before .before .before .before .pre .room)
 
 returns-2 : tie.Need-returns-2
-returns-2 c p =
-    let on = c .before .before .before .before in
-    let put = c .before .before .put-e .ensures in
-    read-stepped p (on .before .before .before .read .ensures) (rw (answer-refused _ _ _ (on .if1 .left)) put)
+returns-2 c tidy p t = read-stepped tidy p t (c .before .before .before .before .before .before .before .read .ensures) (rw (answer-refused _ _ _ (c .before .before .before .before .if1 .left)) (c .before .before .put-e .ensures))
 
 pub play-read-spec : {M : Type 1} → statement M
 play-read-spec =

@@ -1,25 +1,36 @@
 -- `panel::run::play_lines` meets its contract: after each line, what is written and what is still to come are the definition's answers.
 -- Assumes nothing.
-use mathlib.Core.Path.{_≡_, refl}
+use mathlib.Core.Path.{_≡_, refl, sym, ap}
 use Prim.Native.Nat.{_+_, _-_, _≤_}
 use native.Mathlib.Omega.{arith}
 use lib.ListN.{length}
 use borrow.Author.Needs.{needs}
+use Rattle.parts.specs.declared.format.Format.{Format}
+use Rattle.rules.specs.State.{fresh}
+use Rattle.rules.specs.Card.{Card}
+use Rattle.gdp.specs.Flat.{flat}
+use Rattle.gdp.proofs.Laws.{back}
+use Rattle.panel.specs.Panel.{card}
+use Rattle.panel.specs.Working.Played.{cardAt, Tidy}
+use Rattle.panel.proofs.Steps.{started}
 use Rattle.panel.proofs.Playing.{Going, going-none, going-more, going-all}
 use Rattle.panel.proofs.run.play_lines.Statement.{statement}
 use Rattle.panel.proofs.run.play_lines.Tie as tie
 
 abbrev Inv-loop : tie.InvT-loop
 Inv-loop input pic₀ table out₀ start s₀ at₀ from₀ line₀ pic out s at from line =
-    Going input out₀ start s₀ pic₀ s pic out at from line × (length pic ≡ length pic₀)
+    Going input out₀ start (cardAt s₀ pic₀ table) (cardAt s pic table) out at from line × (length pic ≡ length pic₀) × Tidy s
 
 abbrev μ-loop : tie.MeasureT-loop
 μ-loop input pic₀ table out₀ start s₀ at₀ from₀ line₀ pic out s at from line = length input + 1 - from
 
 loop-holds : tie.Need-loop-holds Inv-loop μ-loop
 loop-holds c =
-    let a = c .before .before .before .before .before .args in
-    (going-none (a .input .now) (a .out .now) (a .start) (c .fresh .result) (a .pic .now), refl)
+    let a = c .before .before .before .before .before .args in (
+      going-none (a .input .now) (a .out .now) (a .start) (cardAt (c .fresh .result) (a .pic .now) (a .table .now)),
+      refl,
+      rw (c .fresh .ensures) (ap flat (sym (back (fresh Format.Ef9366)))),
+    )
 
 play-record-requires : tie.Need-play-record-requires Inv-loop μ-loop
 play-record-requires c κs =
@@ -30,7 +41,7 @@ play-record-requires c κs =
         line = omega (arith, g .lines, c .before .before .before .before .before .loop-test .taken, s .pre .0);
         room = omega (arith, g .written, g .size, c .before .before .before .before .before .loop-test .taken, s .pre .0, s .pre .3);
       },
-      s .pre .2,
+      l .loop .inv .2,
     )
 
 add-from : tie.Need-add-from Inv-loop μ-loop
@@ -58,8 +69,10 @@ loop-again c =
     let p = d .before .before .before in
     let f = p .before .before in
     let l = f .before .before in (
-      going-more (l .loop .inv .0) (f .find .ensures) (f .before .loop-test .taken) (p .parse .ensures) (d .play-record .ensures),
+      going-more (l .loop .inv .0) (f .find .ensures) (f .before .loop-test .taken) (p .parse .ensures)
+          (d .play-record .ensures .card) (d .play-record .ensures .text) (d .play-record .ensures .short),
       omega (arith, d .play-record .kept .1 .1 .1 .0, l .loop .inv .1),
+      d .play-record .ensures .tidy,
     )
 
 returns : tie.Need-returns Inv-loop μ-loop
@@ -71,7 +84,8 @@ returns c =
     let g = l .inv .0 in
     let most : l .at ≤ s .args .start + 720907 = omega (arith, g .written, g .read, size) in
     let all = going-all g (c .loop-test .left) (omega (arith, room)) (omega (arith, most, g .size, room)) in
-    rw (← c .before .before .fresh .ensures, ← s .pre .1) (all .0, (all .1, most))
+    let first : cardAt (c .before .before .fresh .result) (c .before .before .before .before .before .before .before .args .pic .now) (c .before .before .before .before .before .before .before .args .table .now) ≡ card = started (c .before .before .fresh .ensures) (s .pre .1) (s .pre .2) in
+    (rw first at (all .0), (ap (λ (d : Card). d .memory .picture) (rw first at (all .1)), most))
 
 pub play-lines-spec : {M : Type 1} → statement M
 play-lines-spec =

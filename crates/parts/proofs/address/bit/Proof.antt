@@ -1,6 +1,6 @@
 use mathlib.Core.Path.{sym}
 use native.Mathlib.Omega.{arith}
-use Rattle.picture.proofs.Bits.{bit-digit}
+use Rattle.picture.proofs.Laws.{bit-digit}
 use borrow.Author.Needs.{needs}
 use Rattle.parts.proofs.address.bit.Statement.{statement}
 use Rattle.parts.proofs.address.bit.Tie as tie

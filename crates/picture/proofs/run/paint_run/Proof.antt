@@ -7,7 +7,8 @@ use Prim.Native.Nat.{_-_, _≤_}
 use native.Mathlib.Omega.{arith}
 use lib.ListN.{length}
 use borrow.Author.Needs.{needs}
-use Rattle.picture.specs.Dot.{paint, upFrom}
+use Rattle.picture.specs.Dot.{paint}
+use Rattle.picture.specs.Working.Runs.{upFrom}
 use Rattle.picture.proofs.Dots.{paint-length, paint-further}
 use Rattle.picture.proofs.run.paint_run.Statement.{statement}
 use Rattle.picture.proofs.run.paint_run.Tie as tie

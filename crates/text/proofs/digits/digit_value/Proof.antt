@@ -3,19 +3,19 @@
 use native.Mathlib.Omega.{arith}
 use borrow.Author.Tests.{leb-true}
 use Rattle.text.specs.Numbers.{digitValue}
-use Rattle.text.proofs.Cases.{both}
+use Rattle.basis.proofs.Cases.{and-parts}
 use Rattle.text.proofs.digits.digit_value.Statement.{statement}
 use Rattle.text.proofs.digits.digit_value.Tie as tie
 
 sub-result : tie.Need-sub-result
-sub-result c = leb-true 48 _ (both _ _ (c .if1 .taken) .0)
+sub-result c = leb-true 48 _ (and-parts _ _ (c .if1 .taken) .0)
 
 returns : tie.Need-returns
 unfolding digitValue
 returns c = rw (c .if1 .taken)
 
 sub-result-2 : tie.Need-sub-result-2
-sub-result-2 c = omega (arith, leb-true 65 (c .before .before .args .b) (both _ _ (c .if2 .taken) .0))
+sub-result-2 c = omega (arith, leb-true 65 (c .before .before .args .b) (and-parts _ _ (c .if2 .taken) .0))
 
 returns-2 : tie.Need-returns-2
 unfolding digitValue

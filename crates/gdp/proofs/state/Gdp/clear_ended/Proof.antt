@@ -1,15 +1,21 @@
 use mathlib.Core.Path.{sym, _∙_}
-use Rattle.gdp.specs.Blanking.{clearEnds}
+use Rattle.rules.specs.Sequence.{Idle}
+use Rattle.rules.specs.State.{withWork}
+use Rattle.rules.specs.Blanking.{clearEnds}
+use Rattle.gdp.specs.Flat.{stateOf}
+use borrow.Author.Needs.{needs}
 use Rattle.gdp.proofs.state.Gdp.clear_ended.Statement.{statement}
 use Rattle.gdp.proofs.state.Gdp.clear_ended.Tie as tie
 
 returns : tie.Need-returns
 unfolding clearEnds
-returns c = simp (c .ready-raised .ensures, sym (c .before .before .is-clear-open .ensures) ∙ c .before .if1 .taken)
+returns c n =
+    rw (sym (c .before .before .before .ends-clear .ensures) ∙ c .before .before .if1 .taken)
+    (c .ready-raised .ensures (withWork Idle (stateOf (c .before .before .before .before .args .self))) (c .before .idle .ensures n))
 
 returns-2 : tie.Need-returns-2
 unfolding clearEnds
-returns-2 c = simp (sym (c .before .is-clear-open .ensures) ∙ c .if1 .left)
+returns-2 c n = rw (sym (c .before .before .ends-clear .ensures) ∙ c .before .if1 .left) (c .tidy .ensures n)
 
 pub clear-ended-spec : {M : Type 1} → statement M
-clear-ended-spec = tie.close (tie.spec (λ c κs. tt) (λ c κs. tt) returns returns-2)
+clear-ended-spec = tie.close (tie.spec (λ c κs. search needs) (λ c κs. search needs) (λ c κs. search needs) returns (λ c κs. search needs) returns-2)

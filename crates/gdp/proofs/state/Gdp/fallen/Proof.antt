@@ -1,12 +1,13 @@
-use Rattle.gdp.specs.Blanking.{fallen}
+use Rattle.rules.specs.Blanking.{fallen}
+use Rattle.gdp.specs.Flat.{flat}
+use Rattle.gdp.proofs.Bytes.{modes-fall, signals-fall, fall-code, fall-done}
+use borrow.Author.Needs.{needs}
 use Rattle.gdp.proofs.state.Gdp.fallen.Statement.{statement}
 use Rattle.gdp.proofs.state.Gdp.fallen.Tie as tie
 
 returns : tie.Need-returns
-unfolding fallen
-returns c =
-    let at = c .before .before in
-    simp (c .with-pen .ensures, c .before .pen-at-fall .ensures, at .with-work .ensures, at .before .clear-at-fall .ensures)
+unfolding flat fallen
+returns c s e = simp (c .signals-at-fall .ensures, c .before .modes-at-fall .ensures, e, modes-fall, signals-fall, fall-code, fall-done)
 
 pub fallen-spec : {M : Type 1} → statement M
-fallen-spec = tie.close (tie.spec (λ c κs. tt) (λ c κs. tt) (λ c κs. tt) (λ c κs. tt) returns)
+fallen-spec = tie.close (tie.spec (λ c κs. search needs) (λ c κs. search needs) returns)

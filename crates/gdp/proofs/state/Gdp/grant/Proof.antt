@@ -1,76 +1,73 @@
-use mathlib.Core.Path.{refl, sym, ap, _∙_}
-use lib.Dec.{eqb}
-use Prim.Native.Nat.{ℕ}
+-- `gdp::state::Gdp::grant` meets its contract: refused, or by what runs.
+-- Assumes nothing.
+use mathlib.Core.Path.{_≡_, sym, _∙_}
+use mathlib.Core.Bool.{false}
+use native.Mathlib.Omega.{arith}
 use borrow.Author.Needs.{needs}
-use borrow.Author.Tests.{ne-eqb}
-use Rattle.gdp.specs.Refusals.{wrongPicture, wrongTable, grantNumber}
-use Rattle.gdp.proofs.Split.{idle-still, clear-still}
-use Rattle.gdp.proofs.Grants.{grant-taken, grant-refused}
-use Rattle.gdp.proofs.Steps.{still-taken, grant-accepted}
+use Rattle.parts.specs.Refusal.{lowest}
+use Rattle.gdp.specs.Flat.{workIn}
+use Rattle.gdp.specs.Working.Check.{stray}
+use Rattle.gdp.proofs.Flaws.{plain-named, stray-flawed, others-sound}
+use Rattle.gdp.proofs.Told.{grant-refused, grant-memories}
+use Rattle.gdp.proofs.Steps.{others-granted}
 use Rattle.gdp.proofs.state.Gdp.grant.Statement.{statement}
 use Rattle.gdp.proofs.state.Gdp.grant.Tie as tie
 
-step-requires : tie.Need-step-requires
-unfolding wrongPicture wrongTable grantNumber
-step-requires c κs =
-    let on = c .before .before .before .before in
-    let s = on .before .before .before .before in
-    let a = s .args in
-    let f = grant-accepted (a .self) (a .pic .now) (a .table .now) (sym (on .before .grant-number .ensures) ∙ on .if1 .taken) in
-    ((c .before .before .w .given .1, f .0), (f .1, f .2))
+abbrev start : tie.After-is-stray → tie.Start
+start c = c .before .before .before
 
 returns : tie.Need-returns
-unfolding wrongPicture wrongTable grantNumber
+unfolding lowest
 returns c =
-    let on = c .before .before .before in
-    let a = on .before .before .before .before .args in
-    rw (
-      grant-taken (a .self) (a .n) (a .pic .now) (a .table .now) (sym (on .before .grant-number .ensures) ∙ on .if1 .taken),
-      c .accepted .ensures,
-    )
-    (still-taken (a .self) (a .n) (a .pic .now) (a .table .now) (idle-still (a .self) (c .before .enum-told .given .1)))
+    let on = c .before .before in
+    let flaw = stray-flawed (start on .args .self) (sym (on .is-stray .ensures) ∙ c .before .if1 .taken) in
+    rw (c .refused .ensures) (grant-refused (start on .args .self) _ _ _ (rw flaw) (λ z. omega arith))
 
-returns-2 : tie.Need-returns-2
-unfolding wrongPicture wrongTable grantNumber
-returns-2 c =
-    let d = c .before .before in
-    let on = d .before .before .before .before .before in
-    let a = on .before .before .before .before .args in
-    rw (grant-taken (a .self) (a .n) (a .pic .now) (a .table .now) (sym (on .before .grant-number .ensures) ∙ on .if1 .taken)) (d .step .ensures)
+-- past the first refusal the bytes are not stray
+plain : (c : tie.Else1) → stray (start (c .before) .args .self) ≡ false
+plain c = sym (c .before .is-stray .ensures) ∙ c .if1 .left
+
+grant-steps-requires : tie.Need-grant-steps-requires
+grant-steps-requires c κs =
+    let steps = c .before in
+    (plain (steps .before .before), sym (steps .before .work-number .ensures) ∙ steps .if2 .taken)
+
+-- past the test of what runs it is no command that steps
+other : (c : tie.Else2) → workIn (start (c .before .before .before) .args .self .modes) ≡ 1 → ⊥
+other c e = c .if2 .left (c .before .work-number .ensures ∙ e)
 
 returns-3 : tie.Need-returns-3
-unfolding wrongPicture wrongTable grantNumber
 returns-3 c =
-    let on = c .before .before .before in
-    let a = on .before .before .before .before .args in
-    rw (
-      grant-taken (a .self) (a .n) (a .pic .now) (a .table .now) (sym (on .before .grant-number .ensures) ∙ on .if1 .taken),
-      c .accepted2 .ensures,
-    )
-    (still-taken (a .self) (a .n) (a .pic .now) (a .table .now) (clear-still (a .self) _ _ (c .before .enum-told2 .given .1)))
+    let told = c .before .before in
+    let past = told .before in
+    let a = start (past .before .before .before) .args in
+    let sound = others-sound (a .self) (plain (past .before .before)) (other past) in
+    rw (c .refused2 .ensures)
+    (grant-refused (a .self) _ _ _
+    (grant-memories (a .self) (a .n) (a .pic .now) (a .table .now) sound ∙ sym (told .memory-number .ensures)) (c .before .if3 .taken))
 
 returns-4 : tie.Need-returns-4
-unfolding wrongPicture wrongTable grantNumber
 returns-4 c =
-    let a = c .before .before .before .before .before .args in
-    let e = c .before .before .grant-number .ensures in
-    let f = ap (λ (n : ℕ). eqb n 0) (sym e) ∙ ne-eqb (c .before .before .grant-number .result) 0 (c .before .if1 .left) in
-    rw (grant-refused (a .self) (a .n) (a .pic .now) (a .table .now) f, c .refused .ensures) (record { answers = rw e; pictures = refl })
+    let fits = c .before .before in
+    let past = fits .before .before in
+    let a = start (past .before .before .before) .args in
+    rw (c .accepted .ensures, c .before .tidy .ensures (plain-named (a .self) (plain (past .before .before))))
+    (others-granted (a .self) _ _ _ (plain (past .before .before)) (other past) (sym (fits .before .memory-number .ensures) ∙ fits .if3 .left))
 
 pub grant-spec : {M : Type 1} → statement M
 grant-spec =
     tie.close
     (tie.spec
-    (λ c κs. tt)
-    (λ c. search needs)
-    (λ c κs. tt)
-    (λ c. search needs)
-    step-requires
-    (λ c. search needs)
-    (λ c κs. tt)
-    (λ c κs. tt)
+    (λ c κs. search needs)
+    (λ c κs. search needs)
     returns
+    (λ c κs. search needs)
+    grant-steps-requires
     (λ c. search needs)
-    returns-2
+    (λ c. search needs)
+    (λ c κs. search needs)
+    (λ c κs. search needs)
     returns-3
+    (λ c κs. search needs)
+    (λ c κs. search needs)
     returns-4)

@@ -1,5 +1,5 @@
+use Rattle.rules.specs.Refusals.{badRegs}
 use borrow.Author.Needs.{needs}
-use Rattle.gdp.specs.Refusals.{badRegs}
 use Rattle.gdp.proofs.state.Gdp.is_bad_regs.Statement.{statement}
 use Rattle.gdp.proofs.state.Gdp.is_bad_regs.Tie as tie
 

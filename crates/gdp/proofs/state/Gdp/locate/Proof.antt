@@ -1,16 +1,18 @@
 use mathlib.Core.Path.{sym, _∙_}
-use borrow.Author.Tests.{ne-eqb}
-use Rattle.gdp.specs.Calls.{located, noOutputs}
+use Rattle.parts.specs.Refusal.{lowest}
+use Rattle.rules.specs.Calls.{noOutputs}
+use Rattle.gdp.proofs.Told.{address-told}
+use borrow.Author.Needs.{needs}
 use Rattle.gdp.proofs.state.Gdp.locate.Statement.{statement}
 use Rattle.gdp.proofs.state.Gdp.locate.Tie as tie
 
 returns : tie.Need-returns
-unfolding located noOutputs
-returns c = simp (c .outputs .ensures, sym (c .before .before .address-number .ensures) ∙ c .before .if1 .taken)
+unfolding lowest noOutputs
+returns c = simp (address-told, sym (c .before .is-bad .ensures) ∙ c .if1 .taken)
 
 returns-2 : tie.Need-returns-2
-unfolding located noOutputs
-returns-2 c = simp (← c .before .address-number .ensures, ne-eqb _ _ (c .if1 .left))
+unfolding lowest
+returns-2 c = simp (c .outputs .ensures, c .before .format-of .ensures, address-told, sym (c .before .before .before .is-bad .ensures) ∙ c .before .before .if1 .left)
 
 pub locate-spec : {M : Type 1} → statement M
-locate-spec = tie.close (tie.spec (λ c κs. tt) (λ c κs. tt) returns returns-2)
+locate-spec = tie.close (tie.spec (λ c κs. search needs) returns (λ c κs. search needs) (λ c κs. search needs) returns-2)

@@ -1,36 +1,27 @@
--- `gdp::state::Gdp::status` meets its contract: the sum of the bits' weights, each within its own.
--- Assumes nothing.
-use native.Mathlib.Nat.{one-mul}
+use mathlib.Core.Bool.{Bool·not-not}
+use native.Mathlib.Omega.{arith}
+use Rattle.rules.specs.Status.{flagged, status}
+use Rattle.rules.specs.Refusals.{busy}
+use Rattle.gdp.specs.Flat.{stateOf}
 use borrow.Author.Needs.{needs}
-use Rattle.gdp.specs.Status.{status, flagged}
 use Rattle.gdp.proofs.state.Gdp.status.Statement.{statement}
 use Rattle.gdp.proofs.state.Gdp.status.Tie as tie
 
 returns : tie.Need-returns
-unfolding status flagged
+unfolding status flagged busy stateOf
 returns c =
-    let flag = c .before .before .before in
-    let out = flag .before .before .before in
-    let idle = out .before .before in
-    let pen = idle .before .before in
+    let busy = c .before .before .before in
     simp (
-      one-mul,
-      c .weighed8 .ensures .0,
-      flag .weighed7 .ensures .0,
-      flag .before .weighed6 .ensures .0,
-      flag .before .before .weighed5 .ensures .0,
-      out .weighed4 .ensures .0,
-      out .before .is-outside .ensures,
-      idle .weighed3 .ensures .0,
-      idle .before .is-ready .ensures,
-      pen .weighed2 .ensures .0,
-      pen .before .weighed .ensures .0,
-      pen .before .before .is-pen-off .ensures,
+      c .weighed3 .ensures .0,
+      c .before .is-outside .ensures,
+      c .before .before .weighed2 .ensures .0,
+      busy .is-busy .ensures,
+      Bool·not-not,
+      busy .before .weighed .ensures .0,
+      busy .before .before .is-light-pen-off .ensures,
+      busy .before .before .before .status-bits .ensures .0,
     )
+    (omega arith)
 
 pub status-spec : {M : Type 1} → statement M
-status-spec =
-    tie.close
-    (tie.spec (λ c κs. tt) (λ c κs. tt) (λ c κs. tt) (λ c. search needs) (λ c κs. tt) (λ c κs. tt) (λ c. search needs)
-    (λ c κs. tt) (λ c κs. tt) (λ c. search needs) (λ c κs. tt) (λ c. search needs) (λ c κs. tt) (λ c. search needs) (λ c κs. tt)
-    (λ c. search needs) (λ c κs. tt) (λ c. search needs) returns)
+status-spec = tie.close (tie.spec (λ c κs. search needs) (λ c κs. search needs) (λ c κs. search needs) (λ c. search needs) (λ c κs. search needs) (λ c κs. search needs) (λ c. search needs) (λ c κs. search needs) (λ c κs. search needs) (λ c. search needs) returns)

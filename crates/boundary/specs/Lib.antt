@@ -1,3 +1,0 @@
-pub mod Flat
-pub mod Calls
-pub mod Short

@@ -1,0 +1,22 @@
+-- Runs of dots and boxes of them, which the code paints by bytes.
+-- Assumes nothing.
+use Prim.Native.Nat.{ℕ, zero, suc}
+use mathlib.Core.Bool.{Bool}
+use mathlib.Core.List.{List, [], _∷_}
+use Rattle.picture.specs.declared.screen.Window.{Window}
+use Rattle.picture.specs.Bit.{withBit}
+use Rattle.picture.specs.Dot.{gathered}
+use Rattle.picture.specs.Screen.{dotNumber}
+
+-- v with the m bits from bit k on made b
+abbrev pub withBits : Bool → ℕ → ℕ → ℕ → ℕ
+withBits b k zero v = v
+withBits b k (suc m) v = withBits b (suc k) m (withBit b k v)
+
+-- the n dots from dot d on
+abbrev pub upFrom : ℕ → ℕ → List ℕ
+upFrom d n = gathered (λ e. e ∷ []) d n
+
+-- the n by m dots whose lower left one is (x, y), row after row
+abbrev pub box : Window → ℕ → ℕ → ℕ → ℕ → List ℕ
+box w x y n m = gathered (λ r. upFrom (dotNumber (w .width) x r) n) y m

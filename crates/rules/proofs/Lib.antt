@@ -1,0 +1,8 @@
+pub mod Laws
+mod Readings
+mod Figures
+mod GoodParts
+mod Good
+mod Split
+mod Grants
+mod Memory

@@ -1,0 +1,2 @@
+-- What proofs lean on; none of it has to be believed.
+pub mod Good
