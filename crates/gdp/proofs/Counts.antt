@@ -1,12 +1,11 @@
 -- The cycles of a command, by its kind, as the code counts them.
 -- Assumes nothing.
-use mathlib.Core.Path.{_≡_, refl, sym, ap, _∙_}
-use Prim.Native.Nat.{ℕ, zero, suc, _+_, _*_, _<_}
+use mathlib.Core.Path.{_≡_, refl, sym, _∙_}
+use Prim.Native.Nat.{ℕ, _*_, _<_}
 use mathlib.Core.Bool.{Bool, true, false, not, _&&_, _||_, Bool·beq, or-false, true≢false, false≢true}
 use native.Mathlib.Numerals.{add-one}
-use lib.Dec.{T, eqb, ltb, leb, leb·zero, leb·suc-suc, eqb·suc-zero}
+use lib.Dec.{T, eqb, ltb, leb, leb·zero}
 use Rattle.basis.proofs.Table.{beq-eq, below, passes}
-use Rattle.picture.specs.Bit.{bitAt}
 use Rattle.motion.specs.declared.character.Body.{Body}
 use Rattle.motion.specs.declared.vector.Line.{Line}
 use Rattle.motion.specs.Vector.{vectorCycles, lineOf}
@@ -16,7 +15,7 @@ use Rattle.parts.specs.declared.command.Kind.{Kind}
 use Rattle.parts.specs.declared.command.Kind.the-variants.{NoCycle, OneCycle, Vector, Character, Block}
 use Rattle.parts.specs.Command.{kind, lettering, lining}
 use Rattle.parts.proofs.Laws.{line-kind}
-use Rattle.drawing.specs.Figure.{cyclesOf}
+use Rattle.drawing.specs.Figure.{Pause, cyclesOf}
 use Rattle.rules.specs.State.{Regs}
 use Rattle.rules.specs.Figure.{tilted, figureBy, figure, cycles}
 use Rattle.gdp.specs.Working.Check.{badStep}
@@ -87,9 +86,9 @@ module _ (r : Regs) (c : ℕ) (h : c < 256) where
       from NoCycle f t = absurd (false≢true t)
 
   -- a stepping command that cannot have come so far: a character command
-  pub bad-letter : (n p : ℕ) → lettering (kind c) ≡ true → n ≡ cycles r c → (bitAt 2 (r .ctrl2) || leb n p) ≡ badStep r c p
-  unfolding badStep tilted
-  bad-letter n p t e = rw (t, e) (turn (bitAt 2 (r .ctrl2)) (leb (cycles r c) p))
+  pub bad-letter : (n p : ℕ) → lettering (kind c) ≡ true → n ≡ cycles r c → (tilted r || leb n p) ≡ badStep r c p
+  unfolding badStep
+  bad-letter n p t e = rw (t, e) (turn (tilted r) (leb (cycles r c) p))
     where
       turn : (a b : Bool) → (a || b) ≡ (b || a)
       turn true true = refl
@@ -103,15 +102,14 @@ module _ (r : Regs) (c : ℕ) (h : c < 256) where
   bad-line l p t e = rw (line-kind (kind c) t, e, or-false, add-one) refl
 
   -- 0F, and the codes that take no write cycle
-  pub bad-other : (p : ℕ) → lettering (kind c) ≡ false → lining (kind c) ≡ false → (not (eqb c 0x0F) || not (eqb p 0)) ≡ badStep r c p
+  pub bad-other : (p : ℕ) → lettering (kind c) ≡ false → lining (kind c) ≡ false → (not (eqb c 0x0F) || leb (cyclesOf Pause) p) ≡ badStep r c p
   unfolding badStep cycles figure figureBy cyclesOf
   bad-other p f g = rw (pause-code c h) (from (kind c) p f g)
     where
       from : (k : Kind) (p : ℕ) → lettering k ≡ false → lining k ≡ false
-          → (not (pausing k) || not (eqb p 0)) ≡ (leb (cyclesOf (figureBy r c k)) p || (lettering k && tilted r))
+          → (not (pausing k) || leb (cyclesOf Pause) p) ≡ (leb (cyclesOf (figureBy r c k)) p || (lettering k && tilted r))
       from NoCycle p f g = rw (leb·zero p) refl
-      from OneCycle zero f g = refl
-      from OneCycle (suc n) f g = rw (eqb·suc-zero n, leb·suc-suc 0 n, leb·zero n) refl
+      from OneCycle p f g = sym (or-false _)
       from Vector p f g = absurd (true≢false g)
       from Character p f g = absurd (true≢false f)
       from Block p f g = absurd (true≢false f)

@@ -79,7 +79,7 @@ impl Gdp {
             let l = line_of(self.code, self.deltax, self.deltay);
             return l.long < self.done;
         }
-        (self.code != 0x0F) | (self.done != 0)
+        (self.code != 0x0F) | (1 <= self.done)
     }
 
     pub(crate) fn is_bad(self) -> bool

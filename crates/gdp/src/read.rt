@@ -34,6 +34,7 @@ impl Gdp {
     pub fn read(self, address: u8) -> Answer
         ensures { λ r. ⌜ r ≡ answerOf self (readOut (stateOf self) address) ⌝ }
     {
+        // `is_bad` in its two parts, which are compiled into the call.
         if self.is_stray() {
             return refused(1, self);
         }

@@ -74,6 +74,7 @@ impl Gdp {
     pub fn write(self, address: u8, value: u8) -> Answer
         ensures { λ r. ⌜ r ≡ answerOf self (written (stateOf self) address value) ⌝ }
     {
+        // `is_bad` in its two parts, which are compiled into the call.
         if self.is_stray() {
             return refused(1, self);
         }

@@ -9,7 +9,6 @@ use lib.Dec.{eqb, leb}
 use borrow.Author.Tests.{eq-eqb, ne-eqb, leb-false}
 use Rattle.basis.proofs.Cases.{or-parts}
 use Rattle.parts.proofs.Laws.{lowest-zero, lowest-most}
-use Rattle.rules.specs.State.{State}
 use Rattle.rules.specs.Figure.{Tables}
 use Rattle.rules.specs.Refusals.{bad, wrongPicture, wrongTable, noRegister, readOnly, busy, tiltedCharacter, offScreen, writeNumber, readNumber, grantNumber, vbNumber, edgeNumber}
 use Rattle.rules.specs.Calls.{Answer as Verdict, Memory, answer, outcome, written, readOut, granted, blanked, struck}

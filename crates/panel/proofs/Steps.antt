@@ -1,15 +1,15 @@
 -- A record played by its call: what the call answers, once it is written, makes the definition's step.
 -- Assumes nothing.
 use mathlib.Core.Path.{_≡_, refl, sym, ap, _∙_, subst}
-use mathlib.Core.Bool.{Bool, true}
+use mathlib.Core.Bool.{Bool}
 use mathlib.Core.List.{List, []}
 use Prim.Native.Nat.{ℕ, _+_, _≤_}
 use Rattle.text.specs.Wrote.{Wrote}
 use Rattle.parts.specs.declared.format.Format.the-variants.{Ef9366}
 use Rattle.rules.specs.State.{fresh}
 use Rattle.rules.specs.Figure.{tables}
-use Rattle.rules.specs.Calls.{Answer as Verdict, Memory, memory, written, readOut, granted, blanked, struck}
-use Rattle.rules.specs.Card.{Card, next, outcomeOf}
+use Rattle.rules.specs.Calls.{Answer as Verdict, memory, written, readOut, granted, blanked, struck}
+use Rattle.rules.specs.Card.{next, outcomeOf}
 use Rattle.gdp.specs.declared.state.Gdp.{Gdp}
 use Rattle.gdp.specs.declared.state.Answer.{Answer}
 use Rattle.gdp.specs.Flat.{flat, stateOf}

@@ -1,5 +1,4 @@
 // Plays a log on a fresh EF9366 with a dark picture and an all-zero character table.
-ghost use mathlib.Core.Path.{_≡_};
 ghost use mathlib.Core.List.{List, []};
 ghost use Prim.Native.Nat.{ℕ, _+_, _≤_};
 ghost use Rattle.panel.specs.declared.parse.Record.{Record};

@@ -4,7 +4,7 @@ ghost use Prim.Native.Nat.{_+_, _-_, _*_, _%_, _≤_, _<_, min};
 ghost use lib.ListN.{length};
 ghost use Rattle.picture.specs.Working.Runs.{withBits, upFrom, box};
 ghost use Rattle.picture.specs.Dot.{paint};
-ghost use Rattle.picture.specs.Screen.{Screen, dotNumber};
+ghost use Rattle.picture.specs.Screen.{Screen};
 use crate::screen::Window;
 
 // v with the m bits from bit k on lit or dark.

@@ -1,9 +1,9 @@
 -- No call leads from a state that is not refused with 1 to one that is. Acceptance is needed only where a register is
 -- written; a refused call hands the state back. The laws of `Good` come first, those of `bad` for each call last.
 -- Assumes nothing.
-use mathlib.Core.Path.{_≡_, refl, sym, _∙_, subst}
+use mathlib.Core.Path.{_≡_, refl, _∙_, subst}
 use mathlib.Core.Bool.{Bool, true, false, _||_, _&&_, and-false, true≢false}
-use mathlib.Core.List.{List, [], _∷_}
+use mathlib.Core.List.{[], _∷_}
 use Prim.Native.Nat.{ℕ, _+_, _*_, _/_, _%_, _<_}
 use native.Mathlib.Nat.{mul-pos}
 use native.Mathlib.Omega.{arith}
@@ -24,8 +24,8 @@ use Rattle.parts.specs.Command.{kind, lettering, prompting}
 use Rattle.parts.proofs.Laws.{lowest-zero}
 use Rattle.drawing.specs.Figure.{Figure, cyclesOf}
 use Rattle.drawing.specs.Run.{placeOf, restOf}
-use Rattle.rules.specs.Sequence.{Work, Idle, Steps, Clear, LightPen, Off, Waiting, Open, ready, lightPenOpen, workFalls, endsClear}
-use Rattle.rules.specs.State.{Regs, State, withPlace, withRegs, withWork, withLightPen, fresh, lightPenRaises, vbRaises, readyRaises}
+use Rattle.rules.specs.Sequence.{Work, Idle, Steps, Clear, ready, lightPenOpen, workFalls, endsClear}
+use Rattle.rules.specs.State.{Regs, State, withPlace, withRegs, fresh, lightPenRaises, vbRaises, readyRaises}
 use Rattle.rules.specs.Registers.{lightPenRead, afterRead}
 use Rattle.rules.specs.Figure.{tilted, figureBy, figure, cycles, Tables}
 use Rattle.rules.specs.Cycles.{start, rested, afterOf, after}

@@ -9,7 +9,6 @@ use borrow.Author.Tests.{ltb-false, le-ltb, leb-false, lt-leb}
 use Rattle.basis.proofs.Cases.{cond-case, or-parts, or-both}
 use Rattle.picture.specs.Bit.{bitAt}
 use Rattle.motion.specs.declared.position.Spot.{Spot}
-use Rattle.parts.specs.Command.{kind}
 use Rattle.rules.specs.Sequence.{Work, Idle, Steps, Clear, ready}
 use Rattle.rules.specs.State.{Regs, Flags, State, regs, withPlace, withLpck, withRegs, withWork, withFlags}
 use Rattle.rules.specs.Registers.{stored}

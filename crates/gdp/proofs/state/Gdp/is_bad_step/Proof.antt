@@ -1,5 +1,7 @@
 use mathlib.Core.Path.{sym, _∙_}
 use native.Mathlib.Omega.{arith}
+use Rattle.drawing.specs.Figure.{cyclesOf}
+use Rattle.rules.specs.Figure.{tilted}
 use Rattle.gdp.specs.Flat.{regsOf}
 use Rattle.gdp.proofs.Counts.{bad-letter, bad-line, bad-other}
 use borrow.Author.Needs.{needs}
@@ -7,6 +9,7 @@ use Rattle.gdp.proofs.state.Gdp.is_bad_step.Statement.{statement}
 use Rattle.gdp.proofs.state.Gdp.is_bad_step.Tie as tie
 
 returns : tie.Need-returns
+unfolding tilted
 returns c =
     let b = c .before .before .before .before .before .args .self in
     let letter = sym (c .before .before .before .before .is-letter .ensures) ∙ c .before .before .before .if1 .taken in
@@ -18,6 +21,7 @@ returns-2 c =
     bad-line (regsOf b) (b .code) (omega arith) _ (b .done) (sym (c .before .before .before .before .is-line .ensures) ∙ c .before .before .before .if2 .taken) (c .before .before .line-of .ensures .0)
 
 returns-3 : tie.Need-returns-3
+unfolding cyclesOf
 returns-3 c =
     let b = c .before .before .before .before .before .before .args .self in
     bad-other (regsOf b) (b .code) (omega arith) (b .done) (sym (c .before .before .before .before .before .is-letter .ensures) ∙ c .before .before .before .before .if1 .left) (sym (c .before .before .before .is-line .ensures) ∙ c .before .before .if2 .left)
