@@ -1,3 +1,4 @@
 pub mod Figure
 pub mod Run
+pub mod Tables
 pub mod Working

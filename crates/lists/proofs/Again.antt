@@ -1,38 +1,99 @@
 -- The list played again from where it began, with the pen or the eraser: it paints the same dots, and ends beside the first end.
 -- Assumes nothing.
 use mathlib.Core.Path.{_≡_, refl, sym, ap, _∙_, subst}
-use mathlib.Core.Bool.{Bool, true, false, _||_, or-comm, or-self, or-self-left}
-use mathlib.Core.List.{List, _++_}
-use native.Mathlib.Omega.{arith}
-use Rattle.picture.specs.Bit.{bitAt}
-use Rattle.picture.proofs.Laws.{bit-same, bit-other, paint-length}
-use Rattle.rules.specs.State.{Flags, State, flags, withFlags, readyRaises}
+use mathlib.Core.Bool.{Bool, true, false, _||_}
+use mathlib.Core.List.{List}
+use Prim.Native.Nat.{ℕ}
+use lib.ListN.{length}
+use Rattle.picture.specs.Dot.{paint}
+use Rattle.picture.proofs.Laws.{bit-same}
+use Rattle.parts.specs.Format.{bytes}
+use Rattle.rules.specs.Sequence.{ready}
+use Rattle.rules.specs.State.{State, flags, state, withLpck}
+use Rattle.rules.specs.Figure.{Tables}
 use Rattle.rules.specs.Cycles.{lights}
-use Rattle.rules.specs.Card.{Card, played}
+use Rattle.rules.specs.Refusals.{bad}
+use Rattle.rules.specs.Calls.{Memory, memory}
+use Rattle.rules.specs.Card.{Card, Event, played}
+use Rattle.rules.specs.Working.Good.{GoodRegs}
+use Rattle.rules.proofs.Laws.{good-from, good-to, ready-work}
 use Rattle.lists.specs.Item.{Item}
-use Rattle.lists.specs.Play.{Fit, Plays, doneAll, listDots}
-use Rattle.lists.specs.Erase.{backTo, eraserByWrite, eraserByCommand}
-use Rattle.lists.proofs.Items.{Calm, list-frame, list-calm}
-use Rattle.lists.proofs.Twin.{beside, own, beside-calm, twin, twin-list, twin-dots-list}
-use Rattle.lists.proofs.Splits.{withDots}
-use Rattle.lists.proofs.Played.{calm, leftBy, leaves}
-use Rattle.lists.proofs.Back.{withState, restarts, erases-by-write, erases-by-command}
+use Rattle.lists.specs.Play.{Fit, Plays, alone, doneAll, listDots}
+use Rattle.lists.specs.Erase.{PutBack, EndsWhole}
+use Rattle.lists.proofs.Items.{Calm}
+use Rattle.lists.proofs.Twin.{relit, Side, beside, twin, relit-good, twin-list, core, same-dots, alike, sideOf, side-good, own}
+use Rattle.lists.proofs.Played.{calm, ends-idle, ends-runs, ends-core, ends-tables, paints, ends-whole}
+use Rattle.lists.proofs.Back.{backOn}
+use Rattle.lists.proofs.Ways.{way-tables, way-along}
 
--- the flags with ready as asked
-abbrev pub withReady : Bool → Flags → Flags
-withReady r f = flags (f .lightPen) (f .vb) r
+-- a second run, by a way that puts the registers back
+module _ {lit : Bool} {c c₁ c₂ : Card} {its : List Item} (f : Fit c) (first : Plays c its c₁) (way : List Event)
+    (back : PutBack lit c c₁ (played c₁ way)) (second : Plays (played c₁ way) its c₂) where
+  abbrev d : Card
+  d = played c₁ way
 
--- flags that have ready high where the state has it make the twin
-as-twin : (lit : Bool) (f : Flags) (s : State) → (f .ready || s .flags .ready) ≡ f .ready → twin lit f s ≡ beside lit f s
-as-twin lit f s e = ap (λ (b : Bool). beside lit (withReady b f) s) e
+  abbrev format : d .state .format ≡ c .state .format
+  format = way-along c₁ way .format ∙ ends-runs f first .kept .format
 
--- flag ready, once high, is high at the end of a list: a state is its own twin
+  abbrev tables : d .tables ≡ c .tables
+  tables = way-tables c₁ way ∙ ends-tables f first
+
+  -- its start is one that no call refuses with 1
+  start-good : bad (d .state) ≡ false
+  start-good =
+      let g = relit-good lit (c .state .regs) (good-from (c .state) (f .good) .regs) in
+      let h = good-from (c₁ .state) (ends-runs f first .good) in
+      let on = way-along c₁ way in
+      let r : GoodRegs (withLpck (d .state .regs .xlp) (d .state .regs .ylp) (relit lit (c .state .regs))) =
+      record { x = g .x; y = g .y; ctrl1 = g .ctrl1; ctrl2 = g .ctrl2; xlp = on .xlp (h .regs .xlp) } in
+      good-to (d .state)
+      (record {
+        regs = subst GoodRegs (sym (back .regs)) r;
+        work = ready-work (d .state .regs) (d .state .vb) (d .state .work) (ap ready (back .idle));
+        lightPen = on .lightPen (h .lightPen);
+      })
+
+  -- and it fits
+  pub fits-again : Fit d
+  fits-again =
+      record {
+        good = start-good;
+        idle = back .idle;
+        picture = ap (λ (m : Memory). length (m .picture)) (back .memory) ∙ ends-runs f first .picture ∙ ap bytes (sym format);
+        table = ap (λ (t : Tables). length (t .characters)) tables ∙ f .table;
+      }
+
+  -- but for what no list looks at, both runs start alike and end alike
+  same-start : core (d .state) ≡ core (c .state)
+  same-start = alike lit (c .state) (d .state) format (back .idle ∙ sym (f .idle)) (back .regs)
+
+  pub same-end : core (c₂ .state) ≡ core (c₁ .state)
+  same-end = ends-core fits-again second ∙ ap (λ (u : State). doneAll u its) same-start ∙ sym (ends-core f first)
+
+  -- with the pen or the eraser as asked
+  start-lights : lights (d .state .regs) ≡ lit
+  unfolding lights
+  start-lights = ap lights (back .regs) ∙ bit-same lit 1 (c .state .regs .ctrl1)
+
+  pub end-lights : lights (c₂ .state .regs) ≡ lit
+  unfolding lights
+  end-lights = rw (ends-runs fits-again second .kept .ctrl1) start-lights
+
+  -- and the second run paints the dots of the first
+  pub paints-again : c₂ .memory ≡ memory (paint lit (listDots (c .state) (c .tables) its) (c₁ .memory .picture))
+  paints-again =
+      paints fits-again second
+      ∙ (λ j. memory (paint (start-lights j) (listDots (d .state) (tables j) its) (back .memory j .picture)))
+      ∙ ap (λ (ds : List ℕ). memory (paint lit ds (c₁ .memory .picture))) (same-dots (calm f) (calm fits-again) same-start (c .tables) its)
+
+-- flag ready, once high, is high at the end of a list
 stays-raised : (s : State) (its : List Item) → Calm s
     → (s .flags .ready || (doneAll s its) .flags .ready) ≡ (doneAll s its) .flags .ready
 stays-raised s its c =
     let lit = lights (s .regs) in
-    let self = as-twin lit (s .flags) s (or-self (s .flags .ready)) ∙ own (s .flags) s refl in
-    ap (λ (t : State). t .flags .ready) (sym (twin-list lit (s .flags) s its c) ∙ ap (λ (t : State). doneAll t its) self)
+    let up = s .flags .ready in
+    ap (λ (t : State). t .flags .ready)
+    (sym (twin-list (sideOf lit up s) (side-good lit up s (c .good)) s its c) ∙ ap (λ (t : State). doneAll t its) (own s))
 
 -- what is high wherever b is, and b wherever a is, is high wherever a is
 raises : (r a b : Bool) → (r || b) ≡ r → (a || b) ≡ b → (r || a) ≡ r
@@ -40,70 +101,34 @@ raises true a b e m = refl
 raises false true b e m = m ∙ e
 raises false false b e m = refl
 
--- a card once a list is played and played again, the second time with the pen or the eraser and with flag ready as asked
-abbrev pub againBy : Bool → Bool → List Item → Card → Card
-againBy lit r its c =
-    let t = doneAll (c .state) its in
-    withDots (beside lit (withReady r (t .flags)) t) lit (listDots (c .state) (c .tables) its) (leftBy its c)
+-- a second run where the way back touched nothing else
+module _ {c c₁ c₂ : Card} {its : List Item} (f : Fit c) (first : Plays c its c₁) (way : List Event) (up : Bool)
+    (e : played c₁ way ≡ backOn up (c .state) c₁) (second : Plays (played c₁ way) its c₂) where
+  abbrev k : Side
+  k = sideOf false up (c₁ .state)
 
-module _ (c : Card) (its : List Item) (h : Fit c) where
-  abbrev s : State
-  s = c .state
+  pub put-back : PutBack false c c₁ (played c₁ way)
+  put-back = rw e (record { idle = ends-idle first; regs = refl; memory = refl })
 
-  abbrev t : State
-  t = doneAll (c .state) its
+  -- and nothing but grants came in between: the second run ends as the first but for CTRL1 bit 1 and flag ready
+  last : alone first ≡ true → alone second ≡ true → (up || c₁ .state .flags .ready) ≡ up → c₂ .state ≡ twin k (c₁ .state)
+  last a b h =
+      let s = c .state in
+      let t = c₁ .state in
+      let one = ends-whole f first a in
+      let high = raises up (s .flags .ready) (t .flags .ready) h (rw one (stays-raised s its (calm f))) in
+      let work = ends-idle first ∙ sym (f .idle) in
+      let again : _ ≡ twin k s = λ j. state (ends-runs f first .kept .format j) (beside k (s .regs)) (work j) (k .lightPen) (k .vb)
+      (flags (k .flags .lightPen) (k .flags .vb) (sym high j)) in
+      ends-whole (fits-again f first way put-back second) second b
+      ∙ ap (λ (u : State). doneAll u its) (ap (λ (x : Card). x .state) e ∙ again)
+      ∙ twin-list k (side-good false up t (ends-runs f first .good)) s its (calm f)
+      ∙ ap (twin k) (sym one)
 
-  -- a second run from beside the start
-  again : (lit r : Bool) → (r || t .flags .ready) ≡ r → {d c₂ : Card}
-      → d ≡ withState (beside lit (withReady r (t .flags)) s) (leftBy its c) → Plays d its c₂ → c₂ ≡ againBy lit r its c
-  unfolding lights
-  again lit r e {d} {c₂} starts second =
-      let f = withReady r (t .flags) in
-      let k : Calm (twin lit f s) = beside-calm lit _ (calm h) in
-      let ds = listDots s (c .tables) its in
-      let long = paint-length (lights (s .regs)) ds (c .memory .picture) ∙ h .picture in
-      let fits : Fit (withState (twin lit f s) (leftBy its c)) =
-      record { good = k .good; idle = k .idle; picture = long; table = h .table } in
-      let first = as-twin lit f s (raises r (s .flags .ready) (t .flags .ready) e (stays-raised s its (calm h))) in
-      let last = twin-list lit f s its (calm h) ∙ as-twin lit f t e in
-      leaves fits (subst (λ (x : Card). Plays x its c₂) (starts ∙ ap (λ (u : State). withState u (leftBy its c)) (sym first)) second)
-      ∙ (λ j. withDots (last j) (bit-same lit 1 (s .regs .ctrl1) j) (twin-dots-list lit f s (c .tables) its (calm h) j) (leftBy its c))
-
-  -- the registers put back, all but the flags is as at the start
-  abbrev restarted : Card
-  restarted = withState (withFlags (t .flags) s) (leftBy its c)
-
-  start-again : played (leftBy its c) (backTo s) ≡ restarted
-  start-again = restarts s (leftBy its c) (calm h) (list-calm s its (calm h)) (list-frame s its (calm h))
-
-  -- and the processor is calm
-  start-calm : Calm (restarted .state)
-  start-calm = subst Calm (own (t .flags) s refl) (beside-calm (lights (s .regs)) (t .flags) (calm h))
-
-  -- with the same pen or eraser
-  pub as-it-was : {c₂ : Card} → Plays (played (leftBy its c) (backTo s)) its c₂
-      → c₂ ≡ againBy (lights (s .regs)) (t .flags .ready) its c
-  as-it-was =
-      again (lights (s .regs)) (t .flags .ready) (or-self (t .flags .ready))
-      (start-again ∙ ap (λ (u : State). withState u (leftBy its c)) (sym (own (t .flags) s refl)))
-
-  -- with the eraser, taken by a write
-  pub by-write : {c₂ : Card} → Plays (played (leftBy its c) (backTo s ++ eraserByWrite s)) its c₂
-      → c₂ ≡ againBy false (t .flags .ready) its c
-  unfolding played backTo eraserByWrite
-  by-write =
-      again false (t .flags .ready) (or-self (t .flags .ready))
-      (ap (λ (d : Card). played d (eraserByWrite s)) start-again ∙ erases-by-write restarted start-calm)
-
-  -- with the eraser, taken by command 01: ready rises where CTRL1 bit 6 is high
-  pub by-command : {c₂ : Card} → Plays (played (leftBy its c) (backTo s ++ eraserByCommand)) its c₂
-      → c₂ ≡ againBy false (t .flags .ready || bitAt 6 (s .regs .ctrl1)) its c
-  unfolding played backTo readyRaises
-  by-command =
-      let a = t .flags .ready in
-      let b = bitAt 6 (s .regs .ctrl1) in
-      again false (a || b) (or-comm (a || b) a ∙ or-self-left a b)
-      (ap (λ (d : Card). played d eraserByCommand) start-again
-      ∙ erases-by-command restarted start-calm
-      ∙ ap (λ (x : Bool). withState (beside false (withReady (a || x) (t .flags)) s) (leftBy its c))
-      (bit-other false 1 6 (s .regs .ctrl1) (omega arith)))
+  pub whole : (up || c₁ .state .flags .ready) ≡ up → alone first ≡ true → alone second ≡ true
+      → EndsWhole (c₁ .state) (c₂ .state) × (c₂ .state .flags .ready ≡ up)
+  whole h a b =
+      rw (last a b h) (
+        record { xlp = refl; ylp = refl; lightPen = refl; vb = refl; penFlag = refl; vbFlag = refl },
+        h,
+      )

@@ -14,7 +14,7 @@ use Rattle.parts.specs.declared.command.Kind.{Kind}
 use Rattle.parts.specs.declared.command.Kind.the-variants.{NoCycle, OneCycle, Vector, Character, Block}
 use Rattle.parts.specs.Command.{kind, prompting}
 use Rattle.rules.specs.Sequence.{Work, Idle, Steps, Clear}
-use Rattle.rules.specs.State.{State, regs, flags, state, withWork, readyRaises}
+use Rattle.rules.specs.State.{State, withWork, readyRaises}
 use Rattle.rules.specs.Registers.{stored}
 use Rattle.rules.specs.Figure.{cycles}
 use Rattle.rules.specs.Cycles.{left, rested, afterOf, after}
@@ -23,7 +23,7 @@ use Rattle.rules.specs.Refusals.{bad, writeNumber}
 use Rattle.rules.specs.Calls.{answer, written}
 use Rattle.rules.proofs.Laws.{write-good, after-good, idle-still}
 use Rattle.lists.specs.Item.{settings, resets, isDrawn, Item, Set, Command, address, value}
-use Rattle.lists.specs.Play.{taking, done, doneAll}
+use Rattle.lists.specs.Play.{taking, done}
 use Rattle.lists.proofs.Splits.{ended}
 
 -- what holds of each number of a list holds of a number in it
@@ -59,50 +59,54 @@ each P h2 h3 h5 h7 h8 h9 hA hB r5 rD rE draws (Set a v t b) =
 each P h2 h3 h5 h7 h8 h9 hA hB r5 rD rE draws (Command c l b) =
     ⊎-elim (one-of (P 0x0) resets (r5, (rD, (rE, tt))) c) (draws c) (or-cases (has c resets) (isDrawn (kind c)) (passed _ l))
 
--- what no item changes: all but X, Y, the deltas, CSIZE, CTRL2, what runs, and the flags
-abbrev pub frame : State → State
-frame s =
-    let r = s .regs in
-    state (s .format) (regs (r .ctrl1) 0 0 0 0 0 0 (r .xlp) (r .ylp)) Idle (s .lightPen) (s .vb) (flags false false false)
-
 -- a clear, which no item begins
-abbrev clears : Work → Bool
+abbrev pub clears : Work → Bool
 clears Idle = false
 clears (Steps c p) = false
 clears (Clear f o) = true
 
--- state t has the frame of state s, and no clear
-abbrev Kept : State → State → Type 0
-Kept s t = (frame t ≡ frame s) × (clears (t .work) ≡ false)
+-- state t has the format and CTRL1 of state s, and no clear runs
+pub record Kept (s t : State) : Type 0 where
+  pub format : t .format ≡ s .format
+  pub ctrl1 : t .regs .ctrl1 ≡ s .regs .ctrl1
+  pub clear : clears (t .work) ≡ false
+
+pub keeps : {s t : State} → t .format ≡ s .format → t .regs .ctrl1 ≡ s .regs .ctrl1 → clears (t .work) ≡ false → Kept s t
+keeps f c w = record { format = f; ctrl1 = c; clear = w }
+
+pub and-then : {s t u : State} → Kept s t → Kept t u → Kept s u
+and-then k l = keeps (l .format ∙ k .format) (l .ctrl1 ∙ k .ctrl1) (l .clear)
 
 -- so it is once an item is accepted
 accepted-kept : (s : State) → clears (s .work) ≡ false → (it : Item) → Kept s (afterWrite s (address it) (value it))
 unfolding afterWrite stored kind begun commanded prompt clearing readyRaises
 accepted-kept s e =
     each (λ a v. Kept s (afterWrite s a v))
-    (λ _. (refl, e)) (λ _. (refl, e)) (λ _. (refl, e)) (λ _. (refl, e)) (λ _. (refl, e)) (λ _. (refl, e)) (λ _. (refl, e)) (λ _. (refl, e))
-    (refl, e) (refl, e) (refl, e)
-    (λ c d. let b = drawn-begun s c d in (ap frame b, ap (λ (t : State). clears (t .work)) b))
+    (λ _. keeps refl refl e) (λ _. keeps refl refl e) (λ _. keeps refl refl e) (λ _. keeps refl refl e)
+    (λ _. keeps refl refl e) (λ _. keeps refl refl e) (λ _. keeps refl refl e) (λ _. keeps refl refl e)
+    (keeps refl refl e) (keeps refl refl e) (keeps refl refl e)
+    (λ c d. subst (Kept s) (sym (drawn-begun s c d)) (keeps refl refl refl))
 
 -- and once it is refused: that leaves the state as handed in
-taking-kept : (s : State) (it : Item) → clears (s .work) ≡ false → Kept s (taking s it)
+refused-or-kept : (s : State) (it : Item) → clears (s .work) ≡ false → Kept s (taking s it)
 unfolding taking written answer
-taking-kept s it e =
-    cond-case (Kept s) (eqb (writeNumber s (address it) (value it)) 0) (λ _. accepted-kept s e it) (λ _. (refl, e))
+refused-or-kept s it e =
+    cond-case (Kept s) (eqb (writeNumber s (address it) (value it)) 0) (λ _. accepted-kept s e it) (λ _. keeps refl refl e)
 
--- the cycles of its command leave the frame too
-after-frame : (s : State) (n : ℕ) (w : Work) → frame (afterOf s n w) ≡ frame s
+-- and so do the cycles of its command
+after-work : (s : State) (n : ℕ) (w : Work) → clears (s .work) ≡ false → Kept s (afterOf s n w)
 unfolding afterOf rested readyRaises
-after-frame s n Idle = refl
-after-frame s n (Steps c p) =
-    cond-case (λ (t : State). frame t ≡ frame s) (ltb (p + n) (cycles (s .regs) c))
-    {x = withWork (Steps c (p + n)) (rested s c p (p + n))}
-    {y = readyRaises (withWork Idle (rested s c p (p + n)))}
-    (λ _. refl) (λ _. refl)
-after-frame s n (Clear f o) = refl
+after-work s n Idle e = keeps refl refl e
+after-work s n (Steps c p) e =
+    cond-case (Kept s) (ltb (p + n) (cycles (s .regs) c)) (λ _. keeps refl refl refl) (λ _. keeps refl refl refl)
+after-work s n (Clear f o) e = keeps refl refl e
 
--- and unless it is a clear, those left lead to its end
-runs-out : (s : State) (w : Work) → s .work ≡ w → clears w ≡ false → (after s (left s)) .work ≡ Idle
+pub after-kept : (s : State) (n : ℕ) → clears (s .work) ≡ false → Kept s (after s n)
+unfolding after
+after-kept s n = after-work s n (s .work)
+
+-- unless it is a clear, what runs is over with the cycles left
+pub runs-out : (s : State) (w : Work) → s .work ≡ w → clears w ≡ false → (after s (left s)) .work ≡ Idle
 runs-out s Idle e f = ap (λ (t : State). t .work) (idle-still s e .stays (left s)) ∙ e
 runs-out s (Steps c p) e f = ended s c p e
 runs-out s (Clear g o) e f = absurd (true≢false f)
@@ -117,35 +121,21 @@ value-byte : (it : Item) → value it < 256
 value-byte (Set a v t b) = ltb-true v 256 (passed (ltb v 256) b)
 value-byte (Command c l b) = ltb-true c 256 (passed (ltb c 256) b)
 
--- an item written, and run to its end: the frame stays, and the processor is calm again
+-- an item written, and run to its end: the processor is calm again
 module _ (s : State) (it : Item) (c : Calm s) where
-  kept : Kept s (taking s it)
-  kept = taking-kept s it (ap clears (c .idle))
-
-  pub taking-frame : frame (taking s it) ≡ frame s
-  taking-frame = kept .0
-
-  pub done-frame : frame (done s it) ≡ frame s
-  unfolding done after
-  done-frame = let w = taking s it in after-frame w (left w) (w .work) ∙ taking-frame
+  pub taking-kept : Kept s (taking s it)
+  taking-kept = refused-or-kept s it (ap clears (c .idle))
 
   pub taking-good : bad (taking s it) ≡ false
   unfolding taking
   taking-good = write-good s (address it) (value it) (value-byte it) (c .good)
 
+  pub done-kept : Kept s (done s it)
+  unfolding done
+  done-kept = let w = taking s it in and-then taking-kept (after-kept w (left w) (taking-kept .clear))
+
   pub done-calm : Calm (done s it)
   unfolding done
   done-calm =
       let w = taking s it in
-      record { good = after-good w (left w) taking-good; idle = runs-out w (w .work) refl (kept .1) }
-
--- and so after a list
-pub list-frame : (s : State) (its : List Item) → Calm s → frame (doneAll s its) ≡ frame s
-unfolding doneAll
-list-frame s [] c = refl
-list-frame s (it ∷ its) c = list-frame (done s it) its (done-calm s it c) ∙ done-frame s it c
-
-pub list-calm : (s : State) (its : List Item) → Calm s → Calm (doneAll s its)
-unfolding doneAll
-list-calm s [] c = c
-list-calm s (it ∷ its) c = list-calm (done s it) its (done-calm s it c)
+      record { good = after-good w (left w) taking-good; idle = runs-out w (w .work) refl (taking-kept .clear) }

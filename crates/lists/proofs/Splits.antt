@@ -15,17 +15,21 @@ use Rattle.parts.specs.Refusal.{lowest}
 use Rattle.rules.specs.Sequence.{Work, Idle, Steps, Clear}
 use Rattle.rules.specs.State.{State, readyRaises}
 use Rattle.rules.specs.Figure.{Tables, cycles}
-use Rattle.rules.specs.Cycles.{lights, left, dots, after}
+use Rattle.rules.specs.Cycles.{lights, left, used, dots, after}
 use Rattle.rules.specs.Refusals.{bad, wrongPicture, wrongTable, grantNumber}
 use Rattle.rules.specs.Calls.{memory, Outcome}
 use Rattle.rules.specs.Card.{Card, T, outcomeOf, next, played}
 use Rattle.rules.specs.Working.Good.{GoodWork}
 use Rattle.rules.proofs.Laws.{good-from, Still, idle-still, clear-still, after-steps, left-steps, joined, grants-join, grant-taken}
-use Rattle.lists.specs.Play.{total}
 
 -- card c in state s, some dots of its picture lit or darkened
 abbrev pub withDots : State → Bool → List ℕ → Card → Card
 withDots s lit ds c = record { state = s; memory = memory (paint lit ds (c .memory .picture)); tables = c .tables }
+
+-- all the cycles of some grants
+unfoldable pub total : List ℕ → ℕ
+total [] = 0
+total (n ∷ ns) = n + total ns
 
 -- grants one after the other leave what one grant of their sum leaves: for every card
 two-grants : (c : Card) (j k : ℕ) → next (next c (T j)) (T k) ≡ next c (T (j + k))
@@ -65,6 +69,18 @@ enough s t n h =
       ap (dots s t) (sym all) ∙ both .written ∙ ap (λ (ds : List ℕ). dots s t (left s) ++ ds) (still .blank t k) ∙ append-nil _,
     )
 
+-- however many cycles a command has used, those left lead to the same end
+pub onward : (s : State) (t : Tables) (n : ℕ)
+    → (after (after s n) (left (after s n)) ≡ after s (left s))
+    × (dots s t n ++ dots (after s n) t (left (after s n)) ≡ dots s t (left s))
+unfolding used
+onward s t n =
+    let k = left (after s n) in
+    let both = joined s t n k in
+    let all : left s ≤ n + k = omega (arith, joined s t n (left s) .value) in
+    let same = enough s t (n + k) all in
+    (both .state ∙ same .0, sym (both .written) ∙ same .1)
+
 -- a good state with no cycle left is still
 none-left : (s : State) (w : Work) → s .work ≡ w → GoodWork (s .regs) (s .vb) w → left s ≤ 0 → Still s
 none-left s Idle e g h = idle-still s e
@@ -72,7 +88,7 @@ none-left s (Steps c p) e g h = absurd (omega (arith, left-steps s c p e, g .lef
 none-left s (Clear f o) e g h = clear-still s f o e
 
 -- a state that no call refuses with 1 is granted cycles, with memories of the right lengths
-accepted : (s : State) (p : List ℕ) (t : Tables) → bad s ≡ false → length p ≡ bytes (s .format) → length (t .characters) ≡ 480
+pub accepted : (s : State) (p : List ℕ) (t : Tables) → bad s ≡ false → length p ≡ bytes (s .format) → length (t .characters) ≡ 480
     → grantNumber s p t ≡ 0
 unfolding grantNumber wrongPicture wrongTable lowest
 accepted s p t g lp lt = rw (g, eq-eqb (length p) (bytes (s .format)) lp, eq-eqb (length (t .characters)) 480 lt)

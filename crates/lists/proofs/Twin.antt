@@ -1,8 +1,8 @@
--- A list does not see CTRL1 bit 1, nor the flags: beside a processor, its twin with that bit made as asked and with other
--- flags takes the same items, writes the same dots, and stays the twin.
+-- A list does not see CTRL1 bit 1, XLP, YLP, the pen's sequence, VB, nor the flags: beside a processor, its twin with others of
+-- these takes the same items, writes the same dots, and stays the twin.
 -- Assumes nothing.
 use mathlib.Core.Path.{_≡_, refl, sym, ap, ap₂, _∙_}
-use mathlib.Core.Bool.{Bool, true, false, cond, _||_, or-assoc}
+use mathlib.Core.Bool.{Bool, true, false, cond, _&&_, _||_, or-assoc, or-self}
 use mathlib.Core.List.{List, [], _∷_, _++_}
 use Prim.Native.Nat.{ℕ, _+_, _-_, min}
 use native.Mathlib.Omega.{arith}
@@ -16,106 +16,112 @@ use Rattle.parts.specs.Format.{window}
 use Rattle.parts.specs.Command.{kind}
 use Rattle.drawing.specs.Figure.{Figure, cyclesOf}
 use Rattle.drawing.specs.Run.{startOf, restOf, mark, dotOf, dotsFrom}
-use Rattle.rules.specs.Sequence.{Work, Idle, Steps, Clear, ready}
-use Rattle.rules.specs.State.{Regs, Flags, State, flags, withCtrl1, withPlace, withRegs, withWork, withFlags, readyRaises}
+use Rattle.rules.specs.Sequence.{Work, Idle, Steps, Clear, LightPen, Off, ready, lightPenOpen}
+use Rattle.rules.specs.State.{Regs, Flags, State, regs, flags, state, withCtrl1, withPlace, withLpck, withRegs, withWork, withFlags, readyRaises}
 use Rattle.rules.specs.Registers.{stored}
 use Rattle.rules.specs.Figure.{Tables, tilted, figure, cycles, glyph}
 use Rattle.rules.specs.Cycles.{penDown, lights, cyclic, tip, here, start, leftOf, left, dotsOf, dots, rested, afterOf, after}
 use Rattle.rules.specs.Commands.{commanded, clearing, prompt, begun, afterWrite}
-use Rattle.rules.specs.Refusals.{busy, tiltedCharacter, writeNumber}
+use Rattle.rules.specs.Refusals.{bad, busy, tiltedCharacter, writeNumber}
 use Rattle.rules.specs.Calls.{answer, written}
 use Rattle.rules.specs.Working.Good.{GoodRegs}
-use Rattle.rules.proofs.Laws.{figure-kept, good-from, good-to, commanded-good, ready-work, regs-put, flags-put}
+use Rattle.rules.proofs.Laws.{figure-kept, good-from, good-to, commanded-good, ready-work}
 use Rattle.lists.specs.Item.{Item, address, value}
 use Rattle.lists.specs.Play.{taking, done, itemDots, doneAll, listDots}
+use Rattle.lists.specs.Erase.{Relit}
 use Rattle.lists.proofs.Items.{drawn-begun, each, Calm, done-calm}
 
 -- the registers with CTRL1 bit 1 made as asked, all else as it was
 abbrev pub relit : Bool → Regs → Regs
 relit lit r = withCtrl1 (withBit lit 1 (r .ctrl1)) r
 
--- the state with that bit and with flags of its own
-abbrev pub beside : Bool → Flags → State → State
-beside lit f s = withFlags f (withRegs (relit lit (s .regs)) s)
+-- what no list looks at: CTRL1 bit 1, XLP and YLP, the pen's sequence, VB, the flags
+pub record Side : Type 0 where
+  pub lit : Bool
+  pub xlp : ℕ
+  pub ylp : ℕ
+  pub lightPen : LightPen
+  pub vb : Bool
+  pub flags : Flags
 
--- with the bit that it has, all but the flags is as it was
-pub own : {lit : Bool} (f : Flags) (s : State) → lights (s .regs) ≡ lit → beside lit f s ≡ withFlags f s
-unfolding lights
-own {lit} f s e = ap (λ (n : ℕ). withFlags f (withRegs (withCtrl1 n (s .regs)) s)) (bit-keep lit 1 (s .regs .ctrl1) e)
+-- the registers with such a side
+abbrev pub beside : Side → Regs → Regs
+beside k r = withLpck (k .xlp) (k .ylp) (relit (k .lit) r)
 
--- commands 00 and 01 make the bit too, so no call refuses such registers with 1 where it did not refuse the others
+-- the twin with such a side: flag ready is high besides where the state has it
+abbrev pub twin : Side → State → State
+twin k s =
+    state (s .format) (beside k (s .regs)) (s .work) (k .lightPen) (k .vb)
+    (flags (k .flags .lightPen) (k .flags .vb) (k .flags .ready || s .flags .ready))
+
+-- a side for which no call refuses with 1: bit 1 of XLP is low, and so is VB inside an open frame of the pen
+pub record GoodSide (k : Side) : Type 0 where
+  pub xlp : bitAt 1 (k .xlp) ≡ false
+  pub lightPen : (k .vb && lightPenOpen (k .lightPen)) ≡ false
+
+-- commands 00 and 01 make CTRL1 bit 1 too, so no call refuses such registers with 1 where it did not refuse the others
 pub relit-good : (lit : Bool) (r : Regs) → GoodRegs r → GoodRegs (relit lit r)
 unfolding commanded
 relit-good true r = commanded-good r 0x00
 relit-good false r = commanded-good r 0x01
 
--- so it is calm where the state is
-pub beside-calm : (lit : Bool) (f : Flags) {s : State} → Calm s → Calm (beside lit f s)
-beside-calm lit f {s} c =
-    let g = good-from s (c .good) in
-    let w = ready-work (relit lit (s .regs)) (s .vb) (s .work) (ap ready (c .idle)) in
-    record { good = good-to (beside lit f s) (flags-put f (regs-put g (relit-good lit (s .regs) (g .regs)) w)); idle = c .idle }
-
--- the twin: flag ready is high besides where the state has it
-abbrev pub twin : Bool → Flags → State → State
-twin lit f s = beside lit (flags (f .lightPen) (f .vb) (f .ready || s .flags .ready)) s
-
 -- a state and its twin
-module _ (lit : Bool) (f : Flags) where
-  -- CTRL1 has no part in a command's figure
-  same-figure : (r : Regs) (c : ℕ) → figure (relit lit r) c ≡ figure r c
-  same-figure r c = figure-kept r (withBit lit 1 (r .ctrl1)) (r .x) (r .y) (r .xlp) (r .ylp) c
+module _ (k : Side) where
+  -- neither CTRL1 nor XLP and YLP have a part in a command's figure
+  same-figure : (r : Regs) (c : ℕ) → figure (beside k r) c ≡ figure r c
+  same-figure r c = figure-kept r (withBit (k .lit) 1 (r .ctrl1)) (r .x) (r .y) (k .xlp) (k .ylp) c
 
-  -- nor has its bit 1 in the dots: bit 0 says whether they are written, bit 3 how the screen ends
-  tip-blind : (g : Format) (r : Regs) (a : Figure) (gl : List ℕ) (at : Spot) (i k : ℕ)
-      → dotsFrom (tip g (relit lit r)) a gl at i k ≡ dotsFrom (tip g r) a gl at i k
+  -- nor has CTRL1 bit 1 in the dots: bit 0 says whether they are written, bit 3 how the screen ends
+  tip-blind : (g : Format) (r : Regs) (a : Figure) (gl : List ℕ) (at : Spot) (i n : ℕ)
+      → dotsFrom (tip g (beside k r)) a gl at i n ≡ dotsFrom (tip g r) a gl at i n
   unfolding dotsFrom dotOf mark tip penDown cyclic
-  tip-blind g r a gl at i k =
-      let down = bit-other lit 1 0 (r .ctrl1) (omega arith) in
-      let wraps = bit-other lit 1 3 (r .ctrl1) (omega arith) in
-      λ j. dotsFrom (record { window = window g (wraps j); down = down j; lit = lit }) a gl at i k
+  tip-blind g r a gl at i n =
+      let down = bit-other (k .lit) 1 0 (r .ctrl1) (omega arith) in
+      let wraps = bit-other (k .lit) 1 3 (r .ctrl1) (omega arith) in
+      λ j. dotsFrom (record { window = window g (wraps j); down = down j; lit = k .lit }) a gl at i n
 
   -- ready rises in both: bit 6 of CTRL1 is the same
-  twin-raises : (s : State) → readyRaises (twin lit f s) ≡ twin lit f (readyRaises s)
+  twin-raises : (s : State) → readyRaises (twin k s) ≡ twin k (readyRaises s)
   unfolding readyRaises
   twin-raises s =
       let was = s .flags .ready in
-      let b = bit-other lit 1 6 (s .regs .ctrl1) (omega arith) in
-      ap (λ (b : Bool). beside lit (flags (f .lightPen) (f .vb) b) s)
-      (ap (λ (b : Bool). f .ready || was || b) b ∙ or-assoc (f .ready) was (bitAt 6 (s .regs .ctrl1)))
+      let up = k .flags .ready in
+      let b = bit-other (k .lit) 1 6 (s .regs .ctrl1) (omega arith) in
+      ap (λ (b : Bool). withFlags (flags (k .flags .lightPen) (k .flags .vb) b) (twin k s))
+      (ap (λ (b : Bool). up || was || b) b ∙ or-assoc up was (bitAt 6 (s .regs .ctrl1)))
 
   -- as many cycles are left
-  left-work : (r : Regs) (w : Work) → leftOf (relit lit r) w ≡ leftOf r w
+  left-work : (r : Regs) (w : Work) → leftOf (beside k r) w ≡ leftOf r w
   unfolding leftOf cycles
   left-work r Idle = refl
   left-work r (Steps c p) = ap (λ (a : Figure). cyclesOf a - p) (same-figure r c)
   left-work r (Clear g o) = refl
 
-  twin-left : (s : State) → left (twin lit f s) ≡ left s
+  twin-left : (s : State) → left (twin k s) ≡ left s
   unfolding left
   twin-left s = left-work (s .regs) (s .work)
 
   -- cycles write the same dots
-  dots-work : (g : Format) (r : Regs) (t : Tables) (n : ℕ) (w : Work) → dotsOf g (relit lit r) t n w ≡ dotsOf g r t n w
+  dots-work : (g : Format) (r : Regs) (t : Tables) (n : ℕ) (w : Work) → dotsOf g (beside k r) t n w ≡ dotsOf g r t n w
   unfolding dotsOf start cycles
   dots-work g r t n Idle = refl
   dots-work g r t n (Steps c p) =
-      ap (λ (a : Figure). dotsFrom (tip g (relit lit r)) a (glyph t c) (startOf a p (here r)) p (min n (cyclesOf a - p))) (same-figure r c)
+      ap (λ (a : Figure). dotsFrom (tip g (beside k r)) a (glyph t c) (startOf a p (here r)) p (min n (cyclesOf a - p))) (same-figure r c)
       ∙ tip-blind g r (figure r c) (glyph t c) (start r c p) p (min n (cycles r c - p))
   dots-work g r t n (Clear h o) = refl
 
-  twin-dots : (s : State) (t : Tables) (n : ℕ) → dots (twin lit f s) t n ≡ dots s t n
+  pub twin-dots : (s : State) (t : Tables) (n : ℕ) → dots (twin k s) t n ≡ dots s t n
   unfolding dots
   twin-dots s t n = dots-work (s .format) (s .regs) t n (s .work)
 
   -- and leave the twin
-  twin-rested : (s : State) (c p i : ℕ) → rested (twin lit f s) c p i ≡ twin lit f (rested s c p i)
+  twin-rested : (s : State) (c p i : ℕ) → rested (twin k s) c p i ≡ twin k (rested s c p i)
   unfolding rested start
   twin-rested s c p i =
-      ap (λ (a : Figure). withRegs (withPlace (restOf a (startOf a p (here (s .regs))) i) (relit lit (s .regs))) (twin lit f s))
+      ap (λ (a : Figure). withRegs (withPlace (restOf a (startOf a p (here (s .regs))) i) (beside k (s .regs))) (twin k s))
       (same-figure (s .regs) c)
 
-  after-work : (s : State) (n : ℕ) (w : Work) → afterOf (twin lit f s) n w ≡ twin lit f (afterOf s n w)
+  after-work : (s : State) (n : ℕ) (w : Work) → afterOf (twin k s) n w ≡ twin k (afterOf s n w)
   unfolding afterOf cycles
   after-work s n Idle = refl
   after-work s n (Steps c p) =
@@ -125,54 +131,113 @@ module _ (lit : Bool) (f : Flags) where
       (λ j. cond (ltb i (cyclesOf (same-figure (s .regs) c j)))
       (withWork (Steps c i) (twin-rested s c p i j))
       (readyRaises (withWork Idle (twin-rested s c p i j))))
-      ∙ ap (cond (ltb i (cycles (s .regs) c)) (twin lit f standing)) (twin-raises idle)
-      ∙ cond-ap (twin lit f) (ltb i (cycles (s .regs) c)) standing (readyRaises idle)
+      ∙ ap (cond (ltb i (cycles (s .regs) c)) (twin k standing)) (twin-raises idle)
+      ∙ cond-ap (twin k) (ltb i (cycles (s .regs) c)) standing (readyRaises idle)
   after-work s n (Clear g o) = refl
 
-  twin-after : (s : State) (n : ℕ) → after (twin lit f s) n ≡ twin lit f (after s n)
+  pub twin-after : (s : State) (n : ℕ) → after (twin k s) n ≡ twin k (after s n)
   unfolding after
   twin-after s n = after-work s n (s .work)
 
   -- an item that is accepted does the same to both
   twin-accepted : (s : State) (it : Item)
-      → afterWrite (twin lit f s) (address it) (value it) ≡ twin lit f (afterWrite s (address it) (value it))
+      → afterWrite (twin k s) (address it) (value it) ≡ twin k (afterWrite s (address it) (value it))
   unfolding afterWrite stored kind begun commanded prompt clearing
   twin-accepted s =
-      each (λ a v. afterWrite (twin lit f s) a v ≡ twin lit f (afterWrite s a v))
+      each (λ a v. afterWrite (twin k s) a v ≡ twin k (afterWrite s a v))
       (λ _. refl) (λ _. refl) (λ _. refl) (λ _. refl) (λ _. refl) (λ _. refl) (λ _. refl) (λ _. refl)
       (twin-raises _) (twin-raises _) (twin-raises _)
-      (λ c d. drawn-begun (twin lit f s) c d ∙ ap (twin lit f) (sym (drawn-begun s c d)))
+      (λ c d. drawn-begun (twin k s) c d ∙ ap (twin k) (sym (drawn-begun s c d)))
 
-  -- and it is refused in both or in neither
-  twin-number : (s : State) (a v : ℕ) → Calm s → writeNumber (twin lit f s) a v ≡ writeNumber s a v
+-- a processor that is calm, and its twin with a good side
+module _ (k : Side) (h : GoodSide k) where
+  pub twin-calm : {s : State} → Calm s → Calm (twin k s)
+  twin-calm {s} c =
+      let g = relit-good (k .lit) (s .regs) (good-from s (c .good) .regs) in
+      let r : GoodRegs (beside k (s .regs)) = record { x = g .x; y = g .y; ctrl1 = g .ctrl1; ctrl2 = g .ctrl2; xlp = h .xlp } in
+      let w = ready-work (beside k (s .regs)) (k .vb) (s .work) (ap ready (c .idle)) in
+      record { good = good-to (twin k s) (record { regs = r; work = w; lightPen = h .lightPen }); idle = c .idle }
+
+  -- an item is refused in both or in neither
+  twin-number : (s : State) (a v : ℕ) → Calm s → writeNumber (twin k s) a v ≡ writeNumber s a v
   unfolding writeNumber busy tiltedCharacter tilted
-  twin-number s a v c = rw (beside-calm lit _ c .good, c .good)
+  twin-number s a v c = rw (twin-calm c .good, c .good)
 
-  twin-taking : (s : State) (it : Item) → Calm s → taking (twin lit f s) it ≡ twin lit f (taking s it)
+  pub twin-taking : (s : State) (it : Item) → Calm s → taking (twin k s) it ≡ twin k (taking s it)
   unfolding taking written answer
   twin-taking s it c =
       let n = twin-number s (address it) (value it) c in
-      (λ j. cond (eqb (n j) 0) (twin-accepted s it j) (twin lit f s))
-      ∙ cond-ap (twin lit f) (eqb (writeNumber s (address it) (value it)) 0) (afterWrite s (address it) (value it)) s
+      (λ j. cond (eqb (n j) 0) (twin-accepted k s it j) (twin k s))
+      ∙ cond-ap (twin k) (eqb (writeNumber s (address it) (value it)) 0) (afterWrite s (address it) (value it)) s
 
   -- so does an item run to its end
-  twin-done : (s : State) (it : Item) → Calm s → done (twin lit f s) it ≡ twin lit f (done s it)
+  twin-done : (s : State) (it : Item) → Calm s → done (twin k s) it ≡ twin k (done s it)
   unfolding done
-  twin-done s it c = rw (twin-taking s it c, twin-left (taking s it)) (twin-after (taking s it) (left (taking s it)))
+  twin-done s it c = rw (twin-taking s it c, twin-left k (taking s it)) (twin-after k (taking s it) (left (taking s it)))
 
-  twin-item : (s : State) (t : Tables) (it : Item) → Calm s → itemDots (twin lit f s) t it ≡ itemDots s t it
+  twin-item : (s : State) (t : Tables) (it : Item) → Calm s → itemDots (twin k s) t it ≡ itemDots s t it
   unfolding itemDots
-  twin-item s t it c = rw (twin-taking s it c, twin-left (taking s it)) (twin-dots (taking s it) t (left (taking s it)))
+  twin-item s t it c = rw (twin-taking s it c, twin-left k (taking s it)) (twin-dots k (taking s it) t (left (taking s it)))
 
   -- and a list
-  pub twin-list : (s : State) (its : List Item) → Calm s → doneAll (twin lit f s) its ≡ twin lit f (doneAll s its)
+  pub twin-list : (s : State) (its : List Item) → Calm s → doneAll (twin k s) its ≡ twin k (doneAll s its)
   unfolding doneAll
   twin-list s [] c = refl
   twin-list s (it ∷ its) c = ap (λ (t : State). doneAll t its) (twin-done s it c) ∙ twin-list (done s it) its (done-calm s it c)
 
-  pub twin-dots-list : (s : State) (t : Tables) (its : List Item) → Calm s → listDots (twin lit f s) t its ≡ listDots s t its
+  pub twin-dots-list : (s : State) (t : Tables) (its : List Item) → Calm s → listDots (twin k s) t its ≡ listDots s t its
   unfolding listDots
   twin-dots-list s t [] c = refl
   twin-dots-list s t (it ∷ its) c =
       ap₂ _++_ (twin-item s t it c)
       (ap (λ (u : State). listDots u t its) (twin-done s it c) ∙ twin-dots-list (done s it) t its (done-calm s it c))
+
+-- the blank side, which any two states that differ in nothing else share: flag ready is high, so that it tells nothing
+abbrev pub blank : Side
+blank = record { lit = false; xlp = 0; ylp = 0; lightPen = Off; vb = false; flags = flags false false true }
+
+pub blank-good : GoodSide blank
+blank-good = record { xlp = refl; lightPen = refl }
+
+abbrev pub core : State → State
+core s = twin blank s
+
+-- states that differ only there have the same dots
+pub same-dots : {s u : State} → Calm s → Calm u → core u ≡ core s → (t : Tables) (its : List Item) → listDots u t its ≡ listDots s t its
+same-dots {s} {u} c d e t its =
+    sym (twin-dots-list blank blank-good u t its d)
+    ∙ ap (λ (v : State). listDots v t its) e
+    ∙ twin-dots-list blank blank-good s t its c
+
+-- and such are states whose registers differ in CTRL1 bit 1, XLP and YLP alone
+bit-over : (b : Bool) (n : ℕ) → withBit false 1 (withBit b 1 n) ≡ withBit false 1 n
+bit-over true n = omega arith
+bit-over false n = omega arith
+
+pub alike : (lit : Bool) (s u : State) → u .format ≡ s .format → u .work ≡ s .work → Relit lit (s .regs) (u .regs) → core u ≡ core s
+alike lit s u f w e =
+    let bit = ap (λ (r : Regs). withBit false 1 (r .ctrl1)) e ∙ bit-over lit (s .regs .ctrl1) in
+    λ j. let r = e j in
+    state (f j) (regs (bit j) (r .ctrl2) (r .csize) (r .deltax) (r .deltay) (r .x) (r .y) 0 0) (w j) Off false (flags false false true)
+
+-- the side of a state, with CTRL1 bit 1 and flag ready as asked
+abbrev pub sideOf : Bool → Bool → State → Side
+sideOf lit ready s =
+    record {
+      lit = lit;
+      xlp = s .regs .xlp;
+      ylp = s .regs .ylp;
+      lightPen = s .lightPen;
+      vb = s .vb;
+      flags = flags (s .flags .lightPen) (s .flags .vb) ready;
+    }
+
+pub side-good : (lit ready : Bool) (s : State) → bad s ≡ false → GoodSide (sideOf lit ready s)
+side-good lit ready s e = let g = good-from s e in record { xlp = g .regs .xlp; lightPen = g .lightPen }
+
+-- a state is its own twin
+pub own : (s : State) → twin (sideOf (lights (s .regs)) (s .flags .ready) s) s ≡ s
+unfolding lights
+own s =
+    let bit = bit-keep (lights (s .regs)) 1 (s .regs .ctrl1) refl in
+    λ j. withFlags (flags (s .flags .lightPen) (s .flags .vb) (or-self (s .flags .ready) j)) (withRegs (withCtrl1 (bit j) (s .regs)) s)

@@ -1,3 +1,4 @@
 pub mod Item
 pub mod Play
 pub mod Erase
+pub mod Tables

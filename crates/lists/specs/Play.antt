@@ -1,9 +1,9 @@
--- Playing a list by the public calls: each item is a write; its command is then run to its end by grants of any sizes.
+-- Playing a list by the public calls: each item is a write; its command is then run to its end, whatever else the host calls.
 -- Assumes nothing.
 use mathlib.Core.Path.{_≡_}
-use Prim.Native.Nat.{ℕ, _+_, _≤_}
-use mathlib.Core.Bool.{false}
-use mathlib.Core.List.{List, [], _∷_, _++_, map}
+use Prim.Native.Nat.{ℕ}
+use mathlib.Core.Bool.{Bool, true, false, _&&_}
+use mathlib.Core.List.{List, [], _∷_, _++_}
 use lib.ListN.{length}
 use Rattle.parts.specs.Format.{bytes}
 use Rattle.rules.specs.Sequence.{Idle}
@@ -12,7 +12,7 @@ use Rattle.rules.specs.Figure.{Tables}
 use Rattle.rules.specs.Cycles.{left, dots, after}
 use Rattle.rules.specs.Refusals.{bad}
 use Rattle.rules.specs.Calls.{written}
-use Rattle.rules.specs.Card.{Card, W, T, next, played}
+use Rattle.rules.specs.Card.{Card, Event, W, R, T, VB, LP, next}
 use Rattle.lists.specs.Item.{Item, address, value}
 
 -- an idle processor in a state that no call refuses with 1, and memories of the lengths that document 01 asks
@@ -26,18 +26,34 @@ pub record Fit (c : Card) : Type 0 where
 unfoldable pub wrote : Card → Item → Card
 wrote c it = next c (W (address it) (value it))
 
--- all the cycles of some grants
-unfoldable pub total : List ℕ → ℕ
-total [] = 0
-total (n ∷ ns) = n + total ns
+-- a call that writes no register: a grant, a read, a VB level, an LPCK edge
+abbrev pub writesNone : Event → Bool
+writesNone (W a v) = false
+writesNone (R a) = true
+writesNone (T n) = true
+writesNone (VB level) = true
+writesNone (LP h v) = true
 
--- a list played on card c ends in card d: each item is written, and whatever is left of its command is granted, however it is
--- split
+-- a list played on card c ends in card d. The next item is written when the processor is idle, so each command is run to its
+-- end; the list is over when the last one is. In between comes whatever writes no register: grants of any sizes, reads, VB
+-- levels, LPCK edges, as many as one likes
 pub data Plays : Card → List Item → Card → Type 0 where
-  end : {c : Card} → Plays c [] c
-  item : {c d : Card} (it : Item) (its : List Item) (ns : List ℕ) → left (wrote c it .state) ≤ total ns
-      → Plays (played (wrote c it) (map T ns)) its d
-      → Plays c (it ∷ its) d
+  end : {c : Card} → c .state .work ≡ Idle → Plays c [] c
+  call : {c d : Card} {its : List Item} (e : Event) → writesNone e ≡ true → Plays (next c e) its d → Plays c its d
+  item : {c d : Card} (it : Item) (its : List Item) → c .state .work ≡ Idle → Plays (wrote c it) its d → Plays c (it ∷ its) d
+
+-- nothing but grants comes in between
+abbrev pub grants : Event → Bool
+grants (W a v) = false
+grants (R a) = false
+grants (T n) = true
+grants (VB level) = false
+grants (LP h v) = false
+
+abbrev pub alone : {c d : Card} {its : List Item} → Plays c its d → Bool
+alone (end i) = true
+alone (call e n rest) = grants e && alone rest
+alone (item it its i rest) = alone rest
 
 -- the state once an item is written, and once its command is run to its end; the dots that demand 2 has it write
 unfoldable pub taking : State → Item → State

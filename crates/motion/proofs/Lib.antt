@@ -7,3 +7,4 @@ mod Counting
 mod Characters
 mod Cells
 mod Glyphs
+mod Readings

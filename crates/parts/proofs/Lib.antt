@@ -3,3 +3,4 @@ mod Codes
 mod Formats
 mod Refusals
 mod Unique
+mod Readings

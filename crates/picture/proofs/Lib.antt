@@ -5,3 +5,4 @@ mod Dots
 mod Order
 mod Runs
 mod Screens
+mod Readings

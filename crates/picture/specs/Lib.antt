@@ -1,4 +1,5 @@
 pub mod Bit
 pub mod Dot
 pub mod Screen
+pub mod Tables
 pub mod Working

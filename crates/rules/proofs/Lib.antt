@@ -1,5 +1,6 @@
 pub mod Laws
 mod Readings
+mod RowReadings
 mod Figures
 mod GoodParts
 mod Good

@@ -2,7 +2,7 @@
 -- Assumes nothing.
 use mathlib.Core.Path.{_≡_, refl}
 use mathlib.Core.Bool.{true}
-use Rattle.rules.specs.Tables.Play.{every}
+use Rattle.basis.specs.Reading.{every}
 use Rattle.rules.specs.Tables.Readings.{readings}
 use Rattle.rules.specs.Tables.MoreReadings.{moreReadings}
 use Rattle.rules.specs.Tables.FineReadings.{fineReadings}

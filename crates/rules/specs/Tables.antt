@@ -3,4 +3,11 @@ pub mod Play
 pub mod Readings
 pub mod MoreReadings
 pub mod FineReadings
+pub mod Rows
+pub mod RegisterRows
+pub mod CommandRows
+pub mod FrameRows
+pub mod DrawRows
+pub mod RefusalRows
+pub mod FormatRows
 pub mod Computed

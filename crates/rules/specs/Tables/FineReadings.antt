@@ -5,12 +5,13 @@ use Prim.Native.Nat.{ℕ}
 use mathlib.Core.Bool.{true, false}
 use mathlib.Core.List.{List, [], _∷_, _++_}
 use lib.ListN.{getD, replicate}
+use Rattle.basis.specs.Reading.{Reading}
 use Rattle.parts.specs.declared.format.Format.the-variants.{Ef9366, FmatHigh, FmatLow}
 use Rattle.rules.specs.State.{fresh}
 use Rattle.rules.specs.Figure.{tables}
 use Rattle.rules.specs.Calls.{memory, readOut, granted}
 use Rattle.rules.specs.Card.{Card, Event, W, R, T, VB, LP}
-use Rattle.rules.specs.Tables.Play.{said, drawn, new, dark, just, Reading}
+use Rattle.rules.specs.Tables.Play.{said, drawn, new, dark, just}
 use Rattle.rules.specs.Tables.Readings.{card, pen, from, draw}
 use Rattle.rules.specs.Tables.MoreReadings.{withRow, running}
 

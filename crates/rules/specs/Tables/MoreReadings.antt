@@ -5,6 +5,7 @@ use Prim.Native.Nat.{ℕ, zero, suc, _+_, _^_}
 use mathlib.Core.Bool.{true, false}
 use mathlib.Core.List.{List, [], _∷_, _++_}
 use lib.ListN.{replicate}
+use Rattle.basis.specs.Reading.{Reading}
 use Rattle.picture.specs.Dot.{paint}
 use Rattle.parts.specs.declared.format.Format.{Format}
 use Rattle.parts.specs.declared.format.Format.the-variants.{Ef9366, FmatHigh, FmatLow}
@@ -13,7 +14,7 @@ use Rattle.rules.specs.State.{State, regs, withRegs, withWork, withLight
 use Rattle.rules.specs.Figure.{tables}
 use Rattle.rules.specs.Calls.{memory, written, readOut, granted, blanked, struck, located}
 use Rattle.rules.specs.Card.{Card, Event, W, R, T, VB, LP}
-use Rattle.rules.specs.Tables.Play.{said, drawn, ends, addressed, new, dark, blank, row, box, numbers, just, Reading}
+use Rattle.rules.specs.Tables.Play.{said, drawn, ends, addressed, new, dark, blank, row, box, numbers, just}
 use Rattle.rules.specs.Tables.Readings.{card, pen, cyclicPen, from, draw}
 
 -- a frame goes by: VB rises and falls, and rises again

@@ -1,7 +1,7 @@
 -- What is noted of events played on a card: the ground of the tables of readings.
 -- Assumes nothing.
 use Prim.Native.Nat.{ℕ, zero, suc, _+_, _*_}
-use mathlib.Core.Bool.{Bool, true, false, cond, _&&_}
+use mathlib.Core.Bool.{true, cond}
 use mathlib.Core.List.{List, [], _∷_, _++_}
 use lib.Dec.{eqb}
 use lib.ListN.{replicate}
@@ -68,17 +68,3 @@ numbers f (d ∷ ds) = (d .1 * width f + d .0) ∷ numbers f ds
 
 unfoldable pub just : Format → List (ℕ × ℕ) → List ℕ
 just f ds = paint true (numbers f ds) (dark f)
-
--- a row of a table of readings: what the definitions give, and what the paper says
-abbrev pub Reading : Type 0
-Reading = List ℕ × List ℕ
-
-unfoldable pub same : List ℕ → List ℕ → Bool
-same [] [] = true
-same [] (y ∷ ys) = false
-same (x ∷ xs) [] = false
-same (x ∷ xs) (y ∷ ys) = eqb x y && same xs ys
-
-unfoldable pub every : List Reading → Bool
-every [] = true
-every (r ∷ rs) = same (r .0) (r .1) && every rs

@@ -3,10 +3,11 @@
 use Prim.Native.Nat.{ℕ, _/_, _%_}
 use mathlib.Core.Bool.{true, false}
 use mathlib.Core.List.{List, [], _∷_}
+use Rattle.basis.specs.Reading.{Reading}
 use Rattle.picture.specs.Screen.{dotNumber}
 use Rattle.parts.specs.declared.format.Format.the-variants.{Ef9366}
 use Rattle.rules.specs.Card.{Card, Event, W, R, T, VB, LP}
-use Rattle.rules.specs.Tables.Play.{said, drawn, ends, addressed, new, just, Reading}
+use Rattle.rules.specs.Tables.Play.{said, drawn, ends, addressed, new, just}
 
 unfoldable pub card : Card
 card = new Ef9366

@@ -1,0 +1,110 @@
+-- Readings of runs: where a figure starts, stands and rests, and its dots in a window of 16 by 8.
+-- Assumes nothing.
+use Prim.Native.Nat.{ℕ}
+use mathlib.Core.Bool.{Bool, true, false}
+use mathlib.Core.List.{List, [], _∷_, _++_}
+use Rattle.basis.specs.Reading.{Reading, joined}
+use Rattle.motion.specs.Position.{spot}
+use Rattle.drawing.specs.declared.tip.Tip.{Tip}
+use Rattle.drawing.specs.Figure.{Figure, Pause, Nothing}
+use Rattle.drawing.specs.Run.{startOf, placeOf, restOf, mark, dotOf, dotsFrom}
+use Rattle.drawing.specs.Tables.Figures.{stroke, cells, pair, pairs, glyph}
+
+-- a flat vector to (+,+), a steep one to (−,−), a body of 2 by 3, the same turned
+unfoldable pub flat : Figure
+flat = stroke 0 5 2 false false false
+
+unfoldable pub steep : Figure
+steep = stroke 0 5 2 true true true
+
+unfoldable pub body : Figure
+body = cells false 1 1 2 3
+
+unfoldable pub turned : Figure
+turned = cells true 1 1 2 3
+
+unfoldable pub standing : List Reading
+standing =
+    -- cycle i lies at its place from the start; where that is known, so is the start
+    (pairs (placeOf flat (spot 4094 50)) 6, 4094 ∷ 50 ∷ 4095 ∷ 50 ∷ 0 ∷ 51 ∷ 1 ∷ 51 ∷ 2 ∷ 52 ∷ 3 ∷ 52 ∷ [])
+    ∷ (pairs (placeOf steep (spot 10 3)) 6, 10 ∷ 3 ∷ 10 ∷ 2 ∷ 9 ∷ 1 ∷ 9 ∷ 0 ∷ 8 ∷ 4095 ∷ 8 ∷ 4094 ∷ [])
+    ∷ (pairs (placeOf body (spot 100 4095)) 6, 100 ∷ 4095 ∷ 100 ∷ 0 ∷ 100 ∷ 1 ∷ 101 ∷ 4095 ∷ 101 ∷ 0 ∷ 101 ∷ 1 ∷ [])
+    ∷ (pairs (placeOf turned (spot 1 50)) 6, 1 ∷ 50 ∷ 0 ∷ 50 ∷ 4095 ∷ 50 ∷ 1 ∷ 51 ∷ 0 ∷ 51 ∷ 4095 ∷ 51 ∷ [])
+    ∷ (pair (placeOf Pause (spot 7 9) 0) ++ pair (placeOf Nothing (spot 7 9) 0), 7 ∷ 9 ∷ 7 ∷ 9 ∷ [])
+    ∷ (pair (startOf flat 0 (spot 7 9)) ++ pair (startOf flat 3 (spot 1 51)), 7 ∷ 9 ∷ 4094 ∷ 50 ∷ [])
+    ∷ (pair (startOf steep 0 (spot 7 9)) ++ pair (startOf steep 4 (spot 8 4095)), 7 ∷ 9 ∷ 10 ∷ 3 ∷ [])
+    ∷ (pair (startOf body 5 (spot 101 1)) ++ pair (startOf body 2 (spot 100 1)), 100 ∷ 4095 ∷ 100 ∷ 4095 ∷ [])
+    ∷ (pair (startOf turned 5 (spot 4095 51)) ++ pair (startOf turned 0 (spot 1 50)), 1 ∷ 50 ∷ 1 ∷ 50 ∷ [])
+    ∷ (pair (startOf Pause 0 (spot 7 9)) ++ pair (startOf Nothing 0 (spot 7 9)), 7 ∷ 9 ∷ 7 ∷ 9 ∷ [])
+    -- between cycles on the place of the next; at the end a vector on its last dot
+    ∷ (
+      pairs (restOf flat (spot 4094 50)) 8,
+      4094 ∷ 50 ∷ 4095 ∷ 50 ∷ 0 ∷ 51 ∷ 1 ∷ 51 ∷ 2 ∷ 52 ∷ 3 ∷ 52 ∷ 3 ∷ 52 ∷ 3 ∷ 52 ∷ [],
+    )
+    ∷ (pairs (restOf steep (spot 10 3)) 8, 10 ∷ 3 ∷ 10 ∷ 2 ∷ 9 ∷ 1 ∷ 9 ∷ 0 ∷ 8 ∷ 4095 ∷ 8 ∷ 4094 ∷ 8 ∷ 4094 ∷ 8 ∷ 4094 ∷ [])
+    -- a character past its columns and Y restored; turned, X restored
+    ∷ (
+      pairs (restOf body (spot 100 4095)) 8,
+      100 ∷ 4095 ∷ 100 ∷ 0 ∷ 100 ∷ 1 ∷ 101 ∷ 4095 ∷ 101 ∷ 0 ∷ 101 ∷ 1 ∷ 102 ∷ 4095 ∷ 102 ∷ 4095 ∷ [],
+    )
+    ∷ (
+      pairs (restOf turned (spot 1 50)) 8,
+      1 ∷ 50 ∷ 0 ∷ 50 ∷ 4095 ∷ 50 ∷ 1 ∷ 51 ∷ 0 ∷ 51 ∷ 4095 ∷ 51 ∷ 1 ∷ 52 ∷ 1 ∷ 52 ∷ [],
+    )
+    ∷ (pairs (restOf Pause (spot 7 9)) 3 ++ pairs (restOf Nothing (spot 7 9)) 3, joined (λ k. 7 ∷ 9 ∷ []) 0 6)
+    ∷ []
+
+-- a tip over the window: down or up, lighting or darkening, on a cyclic screen or not
+unfoldable pub tip : Bool → Bool → Bool → Tip
+tip down lit cyclic = record { window = record { width = 16; height = 8; cyclic = cyclic }; down = down; lit = lit }
+
+unfoldable pub pen : Tip
+pen = tip true true false
+
+unfoldable pub cyclicPen : Tip
+cyclicPen = tip true true true
+
+-- a cycle that is on writes its dot with the tip down, pen or eraser; no other, and none outside
+unfoldable pub marks : List Reading
+marks =
+    (mark pen true 3 2 ++ mark (tip true false false) true 3 2, 35 ∷ 35 ∷ [])
+    ∷ (mark pen false 3 2 ++ mark (tip false true false) true 3 2 ++ mark (tip false false true) true 3 2 ++ mark (tip false true false) false 3 2, [])
+    ∷ (mark pen true 15 7 ++ mark pen true 16 7 ++ mark pen true 15 8 ++ mark pen true 4095 0, 127 ∷ [])
+    ∷ (mark cyclicPen true 16 7 ++ mark cyclicPen true 15 8 ++ mark cyclicPen true 4095 4095, 112 ∷ 15 ∷ 127 ∷ [])
+    ∷ []
+
+-- all dots of a figure's first n cycles from (x, y)
+unfoldable pub drawn : Tip → Figure → ℕ → ℕ → ℕ → List ℕ
+drawn t f x y n = dotsFrom t f glyph (spot x y) 0 n
+
+unfoldable pub drawings : List Reading
+drawings =
+    -- 5 and 2: (0,0) (1,0) (2,1) (3,1) (4,2) (5,2), and nothing by cycles that are not used
+    (drawn pen flat 0 0 6, 0 ∷ 1 ∷ 18 ∷ 19 ∷ 36 ∷ 37 ∷ [])
+    ∷ (drawn pen flat 0 0 0, [])
+    ∷ (drawn pen flat 0 0 3, 0 ∷ 1 ∷ 18 ∷ [])
+    ∷ (dotsFrom pen flat glyph (spot 0 0) 3 2, 19 ∷ 36 ∷ [])
+    ∷ (dotsFrom pen flat glyph (spot 0 0) 5 1, 37 ∷ [])
+    -- the closed form, past the end too: (6,2) and (7,3)
+    ∷ (dotsFrom pen flat glyph (spot 0 0) 5 3, 37 ∷ 38 ∷ 55 ∷ [])
+    -- off the window's corner; cyclic it comes in again
+    ∷ (drawn pen flat 14 7 6, 126 ∷ 127 ∷ [])
+    ∷ (drawn cyclicPen flat 14 7 6, 126 ∷ 127 ∷ 0 ∷ 1 ∷ 18 ∷ 19 ∷ [])
+    ∷ (drawn pen steep 1 3 6, 49 ∷ 33 ∷ 16 ∷ 0 ∷ [])
+    ∷ (drawn cyclicPen steep 1 3 6, 49 ∷ 33 ∷ 16 ∷ 0 ∷ 127 ∷ 111 ∷ [])
+    -- it comes in from outside
+    ∷ (drawn pen flat 4094 0 6, 16 ∷ 17 ∷ 34 ∷ 35 ∷ [])
+    -- the line type counts from dot 0 of the vector, also when its cycles come in portions
+    ∷ (drawn pen (stroke 1 5 2 false false false) 0 0 6, 0 ∷ 1 ∷ 36 ∷ 37 ∷ [])
+    ∷ (dotsFrom pen (stroke 1 5 2 false false false) glyph (spot 0 0) 1 4, 1 ∷ 36 ∷ [])
+    -- a character's dots by its glyph, column after column; turned
+    ∷ (drawn pen (cells false 1 1 6 8) 1 0 16, 1 ∷ 18 ∷ 114 ∷ [])
+    ∷ (drawn pen (cells false 1 1 6 8) 12 0 48, 12 ∷ 29 ∷ 125 ∷ 46 ∷ 78 ∷ 94 ∷ 110 ∷ 63 ∷ 111 ∷ 127 ∷ [])
+    ∷ (drawn pen (cells true 1 1 6 8) 9 0 48, 9 ∷ 24 ∷ 18 ∷ 39 ∷ 37 ∷ 36 ∷ 35 ∷ 54 ∷ 51 ∷ 50 ∷ 72 ∷ 71 ∷ 70 ∷ 69 ∷ [])
+    ∷ (dotsFrom pen (cells false 1 1 6 8) glyph (spot 1 0) 9 6, 18 ∷ [])
+    -- nothing with the tip up, by one cycle without a dot, by no command; the eraser's dots are the pen's
+    ∷ (drawn (tip false true false) flat 0 0 6 ++ drawn (tip false false true) (cells false 1 1 6 8) 0 0 48, [])
+    ∷ (drawn pen Pause 0 0 1 ++ drawn pen Nothing 0 0 1, [])
+    ∷ (drawn (tip true false false) flat 0 0 6, 0 ∷ 1 ∷ 18 ∷ 19 ∷ 36 ∷ 37 ∷ [])
+    ∷ (dotOf pen flat glyph (spot 3 1) 2 ++ dotOf pen flat glyph (spot 3 7) 2 ++ dotOf pen Pause glyph (spot 3 1) 0, 37 ∷ [])
+    ∷ []

@@ -1,0 +1,5 @@
+-- Worked examples, as tables: what the definitions give beside what the paper says. None of it has to be believed.
+pub mod Items
+pub mod Plays
+pub mod Readings
+pub mod Computed
