@@ -52,7 +52,7 @@ fn fits(t: Tip, turned: bool, b: Body, c: Cell) -> bool
 }
 
 // Whether a cell is on the first cycle of a column of the glyph that can be drawn whole.
-pub fn is_whole(t: Tip, turned: bool, b: Body, c: Cell, left: u16) -> bool
+pub(crate) fn is_whole(t: Tip, turned: bool, b: Body, c: Cell, left: u16) -> bool
     requires { ⌜ Sized b ⌝ }
     ensures { λ r. ⌜ (r ≡ true → Whole t turned b c left) ⌝ }
 {
@@ -82,7 +82,14 @@ fn draw_band(pic: &mut [u8], t: Tip, turned: bool, b: Body, c: Cell, on: bool, v
 }
 
 // The cycles of a whole column of the glyph.
-pub fn draw_column<'a>(pic: &mut [u8], t: Tip, turned: bool, b: Body, glyph: &'a [u8], c: Cell)
+pub(crate) fn draw_column<'a>(
+    pic: &mut [u8],
+    t: Tip,
+    turned: bool,
+    b: Body,
+    glyph: &'a [u8],
+    c: Cell,
+)
     requires { ⌜ Screen (t .window) (length (now pic)) ⌝ }
     requires { ⌜ Sized b × Counts b c × (length (now glyph) ≡ 5) × AtFoot t turned b c ⌝ }
     ensures { λ _. ⌜ ((x y : ℕ) → OnPlace turned b x y c → now (pic .exit) ≡ paint (t .lit) (gathered (bodyDot t turned b (now (glyph .entry)) x y) (c .i) (b .p * b .rows)) (now (pic .entry))) ⌝ }

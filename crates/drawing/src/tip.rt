@@ -26,7 +26,7 @@ pub struct Run {
 }
 
 // One cycle: its dot, where it is on and the tip is down.
-pub fn touch(pic: &mut [u8], t: Tip, on: bool, x: u16, y: u16)
+pub(crate) fn touch(pic: &mut [u8], t: Tip, on: bool, x: u16, y: u16)
     requires { ⌜ Screen (t .window) (length (now pic)) ⌝ }
     ensures { λ _. ⌜ now (pic .exit) ≡ paint (t .lit) (mark t on x y) (now (pic .entry)) ⌝ }
 {
@@ -36,7 +36,7 @@ pub fn touch(pic: &mut [u8], t: Tip, on: bool, x: u16, y: u16)
 }
 
 // Cycles that are on alike: their n by m dots inside the window, the lower left one at (x, y).
-pub fn touch_box(pic: &mut [u8], t: Tip, on: bool, x: u16, y: u16, n: u16, m: u16)
+pub(crate) fn touch_box(pic: &mut [u8], t: Tip, on: bool, x: u16, y: u16, n: u16, m: u16)
     requires { ⌜ Screen (t .window) (length (now pic)) ⌝ }
     requires { ⌜ (x + n ≤ t .window .width) × (y + m ≤ t .window .height) ⌝ }
     ensures { λ _. ⌜ now (pic .exit) ≡ paint (t .lit) (markBox t on x y n m) (now (pic .entry)) ⌝ }

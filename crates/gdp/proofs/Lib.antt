@@ -8,3 +8,4 @@ mod Frames
 mod Across
 mod Steps
 mod Settled
+mod Readings

@@ -42,6 +42,10 @@ Grants b n picture table r p = Leaves b (granted (stateOf b) n (memory picture) 
 abbrev pub Blanks : Gdp → Bool → List ℕ → Answer → List ℕ → Type 0
 Blanks b level picture r p = Leaves b (blanked (stateOf b) level (memory picture)) (memory picture) r (memory p)
 
+-- VB's level by a byte: 0 is low, any other is high
+abbrev pub levelOf : ℕ → Bool
+levelOf b = not (eqb b 0)
+
 -- the address outputs
 unfoldable pub outputsOf : Gdp → Located → Outputs
 outputsOf b l =

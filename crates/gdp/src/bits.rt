@@ -16,43 +16,43 @@ use picture::dot::bit_at;
 use picture::dot::with_bit;
 
 // What runs, with bits 5 and 6.
-pub const IDLE: u8 = 0;
+pub(crate) const IDLE: u8 = 0;
 
-pub const STEPS: u8 = 1;
+pub(crate) const STEPS: u8 = 1;
 
-pub const CLEAR: u8 = 2;
+pub(crate) const CLEAR: u8 = 2;
 
-pub const FILL: u8 = 6;
+pub(crate) const FILL: u8 = 6;
 
 // The light pen's sequence.
-pub const LIGHT_PEN_OFF: u8 = 0;
+pub(crate) const LIGHT_PEN_OFF: u8 = 0;
 
-pub const LIGHT_PEN_WAITS: u8 = 1;
+pub(crate) const LIGHT_PEN_WAITS: u8 = 1;
 
-pub const LIGHT_PEN_OPEN: u8 = 2;
+pub(crate) const LIGHT_PEN_OPEN: u8 = 2;
 
 // The flags of STATUS, by their bits.
-pub const LIGHT_PEN_FLAG: u8 = 4;
+pub(crate) const LIGHT_PEN_FLAG: u8 = 4;
 
-pub const VB_FLAG: u8 = 5;
+pub(crate) const VB_FLAG: u8 = 5;
 
-pub const READY_FLAG: u8 = 6;
+pub(crate) const READY_FLAG: u8 = 6;
 
-pub fn is_no_format(modes: u8) -> bool
+pub(crate) fn is_no_format(modes: u8) -> bool
     ensures { λ r. ⌜ r ≡ not (ltb (formatIn modes) 3) ⌝ }
 {
     2 < modes % 8
 }
 
 // The number names no light pen sequence, or VB is high inside the sequence's frame.
-pub fn is_stray_light_pen(signals: u8) -> bool
+pub(crate) fn is_stray_light_pen(signals: u8) -> bool
     ensures { λ r. ⌜ r ≡ strayLightPen signals ⌝ }
 {
     4 < signals / 2 % 8
 }
 
 // The number names no kind of work, or VB is high inside a clear's frame. Bit 4 tells a clear from all else at once.
-pub fn is_stray_work(modes: u8, vb: bool) -> bool
+pub(crate) fn is_stray_work(modes: u8, vb: bool) -> bool
     ensures { λ r. ⌜ r ≡ strayWork vb modes ⌝ }
 {
     if bit_at(modes, 4) {
@@ -61,7 +61,7 @@ pub fn is_stray_work(modes: u8, vb: bool) -> bool
     false
 }
 
-pub fn format_of(modes: u8) -> Format
+pub(crate) fn format_of(modes: u8) -> Format
     ensures { λ r. ⌜ r ≡ formatAt (formatIn modes) ⌝ }
 {
     match modes % 8 {
@@ -72,7 +72,7 @@ pub fn format_of(modes: u8) -> Format
 }
 
 // The byte of a format where nothing runs.
-pub fn modes_of(f: Format) -> u8
+pub(crate) fn modes_of(f: Format) -> u8
     ensures { λ r. ⌜ r ≡ formatNumber f ⌝ }
 {
     match f {
@@ -82,53 +82,53 @@ pub fn modes_of(f: Format) -> u8
     }
 }
 
-pub fn work_number(modes: u8) -> u8
+pub(crate) fn work_number(modes: u8) -> u8
     ensures { λ r. ⌜ r ≡ workIn modes ⌝ }
 {
     modes / 8 % 4
 }
 
 // A clear is inside its frame.
-pub fn is_clear_open(modes: u8) -> bool
+pub(crate) fn is_clear_open(modes: u8) -> bool
     ensures { λ r. ⌜ r ≡ clearOpenIn modes ⌝ }
 {
     bit_at(modes, 4) & bit_at(modes, 6)
 }
 
 // The clear is 0C.
-pub fn is_fill(modes: u8) -> bool
+pub(crate) fn is_fill(modes: u8) -> bool
     ensures { λ r. ⌜ r ≡ bitAt 5 modes ⌝ }
 {
     bit_at(modes, 5)
 }
 
-pub fn is_vb_high(signals: u8) -> bool
+pub(crate) fn is_vb_high(signals: u8) -> bool
     ensures { λ r. ⌜ r ≡ bitAt 1 signals ⌝ }
 {
     bit_at(signals, 1)
 }
 
-pub fn is_light_pen_off(signals: u8) -> bool
+pub(crate) fn is_light_pen_off(signals: u8) -> bool
     ensures { λ r. ⌜ r ≡ noSequence (lightPenAt (lightPenIn signals)) ⌝ }
 {
     signals / 4 % 4 == LIGHT_PEN_OFF
 }
 
-pub fn is_light_pen_open(signals: u8) -> bool
+pub(crate) fn is_light_pen_open(signals: u8) -> bool
     ensures { λ r. ⌜ r ≡ lightPenOpen (lightPenAt (lightPenIn signals)) ⌝ }
 {
     LIGHT_PEN_OPEN <= signals / 4 % 4
 }
 
 // A bit's weight where it is high.
-pub fn weighed(bit: bool, weight: u8) -> u8
+pub(crate) fn weighed(bit: bool, weight: u8) -> u8
     ensures { λ r. ⌜ (r ≡ weight * digit bit) × (r ≤ weight) ⌝ }
 {
     if bit { weight } else { 0 }
 }
 
 // The bits of STATUS that `signals` gives: VB, the flags, and the OR of the flags.
-pub fn status_bits(signals: u8) -> u8
+pub(crate) fn status_bits(signals: u8) -> u8
     ensures { λ r. ⌜ (r ≡ signalBits signals) × (r ≤ 242) ⌝ }
 {
     let flags = signals / 16 % 8;
@@ -136,19 +136,19 @@ pub fn status_bits(signals: u8) -> u8
 }
 
 // The bits in use.
-pub fn in_use(signals: u8) -> u8
+pub(crate) fn in_use(signals: u8) -> u8
     ensures { λ r. ⌜ r ≡ inUse signals ⌝ }
 {
     signals / 2 % 64 * 2
 }
 
-pub fn without_flags(signals: u8) -> u8
+pub(crate) fn without_flags(signals: u8) -> u8
     ensures { λ r. ⌜ r ≡ signals % 16 ⌝ }
 {
     signals % 16
 }
 
-pub fn with_work(modes: u8, work: u8) -> u8
+pub(crate) fn with_work(modes: u8, work: u8) -> u8
     requires { ⌜ work < 16 ⌝ }
     ensures { λ r. ⌜ r ≡ putWork work modes ⌝ }
 {
@@ -156,27 +156,27 @@ pub fn with_work(modes: u8, work: u8) -> u8
 }
 
 // A clear's byte with the bit that is not in use made 0.
-pub fn clear_modes(modes: u8) -> u8
+pub(crate) fn clear_modes(modes: u8) -> u8
     ensures { λ r. ⌜ r ≡ modes % 128 ⌝ }
 {
     modes % 128
 }
 
-pub fn with_light_pen(signals: u8, pen: u8) -> u8
+pub(crate) fn with_light_pen(signals: u8, pen: u8) -> u8
     requires { ⌜ pen < 3 ⌝ }
     ensures { λ r. ⌜ r ≡ putLightPen pen signals ⌝ }
 {
     signals % 4 + 4 * pen + signals / 16 * 16
 }
 
-pub fn with_vb(signals: u8, level: bool) -> u8
+pub(crate) fn with_vb(signals: u8, level: bool) -> u8
     ensures { λ r. ⌜ r ≡ withBit level 1 signals ⌝ }
 {
     with_bit(signals, 1, level)
 }
 
 // A flag raised where its mask lets it.
-pub fn with_flag(signals: u8, flag: u8, mask: bool) -> u8
+pub(crate) fn with_flag(signals: u8, flag: u8, mask: bool) -> u8
     requires { ⌜ flag < 8 ⌝ }
     ensures { λ r. ⌜ r ≡ raiseFlag flag mask signals ⌝ }
 {
@@ -188,7 +188,7 @@ pub fn with_flag(signals: u8, flag: u8, mask: bool) -> u8
 }
 
 // A fall of VB opens the frame of a clear that waits, and of a light pen sequence that waits.
-pub fn modes_at_fall(modes: u8) -> u8
+pub(crate) fn modes_at_fall(modes: u8) -> u8
     ensures { λ r. ⌜ r ≡ modesFall modes ⌝ }
 {
     if modes / 8 % 4 == CLEAR {
@@ -197,7 +197,7 @@ pub fn modes_at_fall(modes: u8) -> u8
     modes
 }
 
-pub fn signals_at_fall(signals: u8) -> u8
+pub(crate) fn signals_at_fall(signals: u8) -> u8
     ensures { λ r. ⌜ r ≡ signalsFall signals ⌝ }
 {
     if signals / 4 % 4 == LIGHT_PEN_WAITS {

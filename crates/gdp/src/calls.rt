@@ -1,11 +1,9 @@
 // The calls as C and Rust see them. A slice crosses as a pointer and a length; the caller lends that much memory,
 // and lends the picture to nobody else meanwhile.
 ghost use mathlib.Core.Path.{_≡_};
-ghost use mathlib.Core.Bool.{not};
-ghost use lib.Dec.{eqb};
 ghost use Rattle.rules.specs.Calls.{written, readOut, struck, located};
 ghost use Rattle.gdp.specs.Flat.{stateOf};
-ghost use Rattle.gdp.specs.Calls.{answerOf, outputsOf, freshAnswer, allOnes, Grants, Blanks};
+ghost use Rattle.gdp.specs.Calls.{answerOf, outputsOf, freshAnswer, allOnes, Grants, levelOf, Blanks};
 use crate::address::Outputs;
 use crate::bits::format_of;
 use crate::state::Answer;
@@ -69,7 +67,7 @@ pub extern "C" fn gdp_grant(state: Gdp, n: u16, pic: &mut [u8], table: &[u8]) ->
 // Level 0 is low, and any other byte is high.
 #[no_mangle]
 pub extern "C" fn gdp_set_vb(state: Gdp, level: u8, pic: &mut [u8]) -> Answer
-    ensures { λ r. ⌜ Blanks state (not (eqb level 0)) (now (pic .entry)) r (now (pic .exit)) ⌝ }
+    ensures { λ r. ⌜ Blanks state (levelOf level) (now (pic .entry)) r (now (pic .exit)) ⌝ }
 {
     state.set_vb(level != 0, pic)
 }

@@ -10,21 +10,21 @@ pub struct Spot {
 }
 
 // p moved on by n.
-pub fn forward(p: u16, n: u16) -> u16
+pub(crate) fn forward(p: u16, n: u16) -> u16
     ensures { λ r. ⌜ r ≡ ahead p n ⌝ }
 {
     (p % 4096 + n % 4096) % 4096
 }
 
 // p moved back by n.
-pub fn backward(p: u16, n: u16) -> u16
+pub(crate) fn backward(p: u16, n: u16) -> u16
     ensures { λ r. ⌜ r ≡ behind p n ⌝ }
 {
     (p % 4096 + (4096 - n % 4096)) % 4096
 }
 
 // p moved back or on by n.
-pub fn advance(p: u16, back: bool, n: u16) -> u16
+pub(crate) fn advance(p: u16, back: bool, n: u16) -> u16
     requires { ⌜ n ≤ 4096 ⌝ }
     ensures { λ r. ⌜ r ≡ ahead p (signed back n) ⌝ }
 {

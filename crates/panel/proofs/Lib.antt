@@ -6,3 +6,6 @@ pub mod Letters
 pub mod Steps
 pub mod Playing
 pub mod Whole
+mod Readings
+pub mod Longest
+pub mod Settled

@@ -1,4 +1,5 @@
 pub mod Record
 pub mod Answer
 pub mod Panel
+pub mod Tables
 pub mod Working

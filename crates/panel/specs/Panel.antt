@@ -1,11 +1,11 @@
 -- The panel program: it plays a fresh EF9366 with a dark picture and an all-zero character table.
 -- Assumes nothing.
 use mathlib.Core.Path.{_≡_}
-use Prim.Native.Nat.{ℕ, zero, suc, _/_, _%_, _≤_, _<_}
+use Prim.Native.Nat.{ℕ, zero, suc, _/_, _%_, _≤_}
 use mathlib.Core.Bool.{cond}
 use mathlib.Core.List.{List, [], _∷_, _++_}
 use lib.Dec.{ltb}
-use lib.ListN.{length, replicate, take}
+use lib.ListN.{length, replicate, drop}
 use Rattle.text.specs.Pieces.{linesOf}
 use Rattle.picture.specs.Dot.{dotAt}
 use Rattle.parts.specs.declared.format.Format.the-variants.{Ef9366}
@@ -71,11 +71,13 @@ panel input =
 abbrev pub longest : ℕ
 longest = 2031648
 
--- the form of the statement about the panel: of buffer before it makes buffer after, whose first r bytes are the output;
--- a buffer that is shorter than the longest output is left alone, and r is 0
+-- what the panel writes into a lent buffer: the whole output, or nothing where the buffer is shorter than the longest
+unfoldable pub fitted : List ℕ → List ℕ → List ℕ
+fitted input before = cond (ltb (length before) longest) [] (panel input)
+
+-- the form of the statement about the panel, which makes buffer after of buffer before: r is the length of what it writes, and
+-- lies inside the buffer; that text stands at the start, and behind it every byte is as handed in
 pub record Gives (input before after : List ℕ) (r : ℕ) : Type 0 where
-  pub output : longest ≤ length before → take r after ≡ panel input
-  pub inside : r ≤ length after
-  pub size : length after ≡ length before
-  pub short : length before < longest → r ≡ 0
-  pub alone : length before < longest → after ≡ before
+  pub count : r ≡ length (fitted input before)
+  pub inside : r ≤ length before
+  pub buffer : after ≡ fitted input before ++ drop r before

@@ -41,7 +41,7 @@ fn put_byte(pic: &[u8], out: &mut [u8], at: usize, i: usize) -> usize
 }
 
 // The lines of a whole picture.
-pub fn put_dots(pic: &[u8], out: &mut [u8], at: usize) -> usize
+pub(crate) fn put_dots(pic: &[u8], out: &mut [u8], at: usize) -> usize
     requires { ⌜ (length (now pic) ≡ 16384) × (at + 1310734 ≤ length (now out)) ⌝ }
     ensures { λ r. ⌜ Wrote (now (out .entry)) at (dotLines (now (pic .entry)) 0 131072) (now (out .exit)) r × (r ≤ at + 1310720) ⌝ }
 {

@@ -1,5 +1,5 @@
 // The panel: a log of calls in, the answers and the screen's dots out.
-// Proved: for every input the bytes written are exactly those of specs/Panel, and the buffer's bound suffices.
+// Proved: for every input the bytes written are exactly those of specs/Panel, the rest of the buffer stays, and its bound suffices.
 // Assumes nothing.
 mod dots;
 pub mod log;

@@ -21,8 +21,8 @@ fn blank_table() -> [u8; 480]
     [0u8; 480]
 }
 
-// Writes the answer to a log at the buffer's start and says how long it is. A buffer shorter than LONGEST is left alone,
-// and the answer is 0.
+// Writes the answer to a log at the buffer's start and says how long it is; the bytes behind it stay. A buffer shorter than
+// LONGEST is left alone, and the answer is 0.
 pub fn play(input: &[u8], out: &mut [u8]) -> usize
     ensures { λ r. ⌜ Gives (now (input .entry)) (now (out .entry)) (now (out .exit)) r ⌝ }
 {

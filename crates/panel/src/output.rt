@@ -12,7 +12,7 @@ use text::write::put_letter;
 use text::write::put_pair;
 
 // G, 9366.
-pub fn put_g(out: &mut [u8], at: usize) -> usize
+pub(crate) fn put_g(out: &mut [u8], at: usize) -> usize
     requires { ⌜ at + 7 ≤ length (now out) ⌝ }
     ensures { λ r. ⌜ Wrote (now (out .entry)) at lineG (now (out .exit)) r ⌝ }
 {
@@ -22,7 +22,7 @@ pub fn put_g(out: &mut [u8], at: usize) -> usize
 }
 
 // R, address, two-digit hex value.
-pub fn put_r(out: &mut [u8], at: usize, address: u8, value: u16) -> usize
+pub(crate) fn put_r(out: &mut [u8], at: usize, address: u8, value: u16) -> usize
     requires { ⌜ (address < 16) × (at + 7 ≤ length (now out)) ⌝ }
     ensures { λ r. ⌜ Wrote (now (out .entry)) at (lineR address value) (now (out .exit)) r ⌝ }
 {
@@ -35,7 +35,7 @@ pub fn put_r(out: &mut [u8], at: usize, address: u8, value: u16) -> usize
 }
 
 // T, cycles used.
-pub fn put_t(out: &mut [u8], at: usize, n: u16) -> usize
+pub(crate) fn put_t(out: &mut [u8], at: usize, n: u16) -> usize
     requires { ⌜ at + 8 ≤ length (now out) ⌝ }
     ensures { λ r. ⌜ Wrote (now (out .entry)) at (lineT n) (now (out .exit)) r × (r ≤ at + 8) ⌝ }
 {
@@ -45,7 +45,7 @@ pub fn put_t(out: &mut [u8], at: usize, n: u16) -> usize
 }
 
 // E, line number, refusal number.
-pub fn put_e(out: &mut [u8], at: usize, line: u32, number: u8) -> usize
+pub(crate) fn put_e(out: &mut [u8], at: usize, line: u32, number: u8) -> usize
     requires { ⌜ (line < 100000) × (number < 100) × (at + 14 ≤ length (now out)) ⌝ }
     ensures { λ r. ⌜ Wrote (now (out .entry)) at (lineE line number) (now (out .exit)) r × (r ≤ at + 11) ⌝ }
 {
@@ -53,7 +53,7 @@ pub fn put_e(out: &mut [u8], at: usize, line: u32, number: u8) -> usize
 }
 
 // P, x, y.
-pub fn put_p(out: &mut [u8], at: usize, x: u16, y: u16) -> usize
+pub(crate) fn put_p(out: &mut [u8], at: usize, x: u16, y: u16) -> usize
     requires { ⌜ (x < 1000) × (y < 1000) × (at + 14 ≤ length (now out)) ⌝ }
     ensures { λ r. ⌜ Wrote (now (out .entry)) at (lineP x y) (now (out .exit)) r × (r ≤ at + 10) ⌝ }
 {

@@ -6,7 +6,7 @@ use text::TAB;
 use text::find::find;
 use text::number::number_of;
 
-pub enum Record {
+pub(crate) enum Record {
     Write { address: u8, value: u8 },
     Read { address: u8 },
     Cycles { n: u16 },
@@ -77,7 +77,7 @@ fn parse_two(letter: u8, f: &[u8], g: &[u8]) -> Record
 }
 
 // What a line means.
-pub fn parse(line: &[u8]) -> Record
+pub(crate) fn parse(line: &[u8]) -> Record
     ensures { λ r. ⌜ r ≡ recordOf (now (line .entry)) ⌝ }
 {
     if line.len() < 3 {

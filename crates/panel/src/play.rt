@@ -12,7 +12,7 @@ use crate::parse::Record;
 use gdp::state::Gdp;
 
 // The state after a line, and the place behind its answer.
-pub struct Step {
+pub(crate) struct Step {
     pub state: Gdp,
     pub at: usize,
 }
@@ -121,7 +121,7 @@ fn play_blanking(s: Gdp, line: u32, level: bool, pic: &mut [u8], out: &mut [u8],
 }
 
 // One record, as line `line`.
-pub fn play_record(
+pub(crate) fn play_record(
     s: Gdp,
     line: u32,
     what: Record,

@@ -13,7 +13,13 @@ use text::LINE_FEED;
 use text::find::find;
 
 // The answers to all lines behind the first `start` bytes; the picture is left as the last line leaves it.
-pub fn play_lines(input: &[u8], pic: &mut [u8], table: &[u8], out: &mut [u8], start: usize) -> usize
+pub(crate) fn play_lines(
+    input: &[u8],
+    pic: &mut [u8],
+    table: &[u8],
+    out: &mut [u8],
+    start: usize,
+) -> usize
     requires { ⌜ (length (now input) ≤ 65536) × (now pic ≡ dark) × (now table ≡ glyphs) × (start + 720921 ≤ length (now out)) ⌝ }
     ensures { λ r. ⌜ Wrote (now (out .entry)) start (answers 1 card (linesOf (now (input .entry)))) (now (out .exit)) r ⌝ }
     ensures { λ r. ⌜ (now (pic .exit) ≡ shown card (linesOf (now (input .entry))) .memory .picture) × (r ≤ start + 720907) ⌝ }

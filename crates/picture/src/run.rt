@@ -35,7 +35,7 @@ fn in_byte(d: usize, n: usize) -> usize
 }
 
 // Lights or darkens the n dots from dot d on.
-pub fn paint_run(pic: &mut [u8], d: usize, n: usize, lit: bool)
+pub(crate) fn paint_run(pic: &mut [u8], d: usize, n: usize, lit: bool)
     requires { ⌜ (d + n ≤ 8 * length (now pic)) × (length (now pic) ≤ 65536) ⌝ }
     ensures { λ _. ⌜ now (pic .exit) ≡ paint lit (upFrom d n) (now (pic .entry)) ⌝ }
 {

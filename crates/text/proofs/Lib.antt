@@ -5,3 +5,5 @@ mod Pieces
 mod Fields
 mod Lines
 mod Writing
+mod Settled
+mod Readings

@@ -3,3 +3,4 @@ pub mod Numbers
 pub mod Found
 pub mod Taken
 pub mod Wrote
+pub mod Tables

@@ -1,35 +1,21 @@
 -- `panel::log::play` meets its contract: the three pieces stand one behind the other at the buffer's start.
 -- Assumes nothing.
-use mathlib.Core.Path.{refl, sym, _∙_}
 use native.Mathlib.Omega.{arith}
 use borrow.Author.Needs.{needs}
 use Rattle.panel.proofs.LineLengths.{lineG-length}
-use Rattle.panel.proofs.Whole.{panel-long, at-start, all-written}
+use Rattle.panel.proofs.Whole.{panel-long, gives-output, gives-nothing, all-written}
 use Rattle.panel.proofs.log.play.Statement.{statement}
 use Rattle.panel.proofs.log.play.Tie as tie
 
 returns : tie.Need-returns
-returns c = record {
-  output = λ h. absurd (omega (arith, h, c .if1 .taken));
-  inside = omega (arith);
-  size = refl;
-  short = λ h. refl;
-  alone = λ h. refl;
-}
+returns c = gives-nothing (c .if1 .taken)
 
 returns-2 : tie.Need-returns-2
 returns-2 c =
     let e = c .before .before in
     let s = e .before .before .before .before .before .before in
-    let w = e .put-e .ensures in
     let long = e .before .before .before .if1 .left in
-    record {
-      output = λ h. at-start (w .0) ∙ sym (panel-long (s .args .input .now) (e .before .before .if2 .taken));
-      inside = omega (arith, w .1, w .0 .size, long);
-      size = w .0 .size;
-      short = λ h. absurd (omega (arith, h, long));
-      alone = λ h. absurd (omega (arith, h, long));
-    }
+    gives-output long (rw (panel-long (s .args .input .now) (e .before .before .if2 .taken)) (e .put-e .ensures .0))
 
 play-lines-requires : tie.Need-play-lines-requires
 play-lines-requires c κs =
@@ -64,14 +50,7 @@ returns-3 c =
     let w = g .put-g .ensures in
     let p = l .play-lines .ensures in
     let q = d .put-dots .ensures in
-    let long = i .before .if1 .left in
-    record {
-      output = λ h. all-written (s .args .input .now) (i .if2 .left) w (p .0) (p .1 .0) (q .0);
-      inside = omega (arith, long, w .end, w .size, lineG-length, p .0 .size, p .1 .1, q .0 .size, q .1);
-      size = q .0 .size ∙ p .0 .size ∙ w .size;
-      short = λ h. absurd (omega (arith, h, long));
-      alone = λ h. absurd (omega (arith, h, long));
-    }
+    gives-output (i .before .if1 .left) (all-written (s .args .input .now) (i .if2 .left) w (p .0) (p .1 .0) (q .0))
 
 pub play-spec : {M : Type 1} → statement M
 play-spec =

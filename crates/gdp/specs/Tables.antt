@@ -1,0 +1,6 @@
+-- Worked examples, as a table: what the definitions give beside what the paper says. None of it has to be believed.
+pub mod Rows
+pub mod Layout
+pub mod Answers
+pub mod Readings
+pub mod Computed
