@@ -1,6 +1,8 @@
-//! Speed: the library against the model's loop and against one tuned by hand.
+//! Speed: the library against a plain card, one tuned by hand, and the model's formulas.
 
+pub mod figures;
 pub mod morning;
+pub mod plain;
 pub mod rounds;
 pub mod runner;
 pub mod tuned;

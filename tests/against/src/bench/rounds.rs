@@ -1,6 +1,7 @@
 //! Interleaved rounds of timing, and their medians.
 
-use super::runner::{Runner, Second};
+use super::plain::Plain;
+use super::runner::{Formulas, Runner};
 use super::tuned::Tuned;
 use super::workload::{Scene, Workload, ALL};
 use std::time::{Duration, Instant};
@@ -17,8 +18,9 @@ pub struct Row {
     pub unit: &'static str,
     /// None where the library's code does not run.
     pub ours: Option<f64>,
-    pub second: f64,
+    pub plain: f64,
     pub tuned: f64,
+    pub formulas: f64,
 }
 
 /// A workload made ready for one contender.
@@ -63,17 +65,19 @@ pub fn table() -> Vec<Row> {
     ALL.iter().zip(times).map(|((name, _, unit), times)| row(name, unit, times)).collect()
 }
 
-/// The two peers, and the library last where it runs.
+/// The peers, and the library last where it runs.
 fn contenders(workload: Workload) -> Vec<Box<dyn Contender>> {
-    let second = Ready::<Second> { workload, scene: workload.scene() };
-    let tuned = Ready::<Tuned> { workload, scene: workload.scene() };
-    let peers: Vec<Box<dyn Contender>> = vec![Box::new(second), Box::new(tuned)];
+    let peers = vec![ready::<Plain>(workload), ready::<Tuned>(workload), ready::<Formulas>(workload)];
     with_ours(peers, workload)
+}
+
+fn ready<R: Runner + 'static>(workload: Workload) -> Box<dyn Contender> {
+    Box::new(Ready::<R> { workload, scene: workload.scene() })
 }
 
 #[cfg(linked)]
 fn with_ours(mut peers: Vec<Box<dyn Contender>>, workload: Workload) -> Vec<Box<dyn Contender>> {
-    peers.push(Box::new(Ready::<super::runner::Ours> { workload, scene: workload.scene() }));
+    peers.push(ready::<super::runner::Ours>(workload));
     peers
 }
 
@@ -105,8 +109,8 @@ fn calibrated(contender: &mut Box<dyn Contender>) -> u64 {
 fn row(name: &'static str, unit: &'static str, times: Vec<Vec<f64>>) -> Row {
     let mut medians = times.into_iter().map(median);
     let mut next = || medians.next();
-    let (second, tuned) = (next().unwrap_or(f64::NAN), next().unwrap_or(f64::NAN));
-    Row { name, unit, ours: next(), second, tuned }
+    let [plain, tuned, formulas] = std::array::from_fn(|_| next().unwrap_or(f64::NAN));
+    Row { name, unit, ours: next(), plain, tuned, formulas }
 }
 
 fn median(mut times: Vec<f64>) -> f64 {

@@ -1,6 +1,7 @@
 //! The contenders behind the same few calls, on an EF9366. None of them is asked for what it would refuse.
 
 use super::morning::Draws;
+use super::plain::Plain;
 use super::tuned::Tuned;
 use second::{Format, State};
 
@@ -49,11 +50,11 @@ impl Runner for Ours {
     }
 }
 
-/// The model's loop, one cycle at a time.
+/// The model, which finds each cycle by the closed formulas.
 #[derive(Clone)]
-pub struct Second(State);
+pub struct Formulas(State);
 
-impl Draws for Second {
+impl Draws for Formulas {
     fn write(&mut self, address: u8, value: u8) {
         self.0 = second::write(&self.0, address, value).state;
     }
@@ -65,9 +66,9 @@ impl Draws for Second {
     }
 }
 
-impl Runner for Second {
-    fn fresh() -> Second {
-        Second(second::set_vb(&second::fresh(Format::Ef9366), true, &mut [0; 16_384]).state)
+impl Runner for Formulas {
+    fn fresh() -> Formulas {
+        Formulas(second::set_vb(&second::fresh(Format::Ef9366), true, &mut [0; 16_384]).state)
     }
 
     fn read(&mut self, address: u8) -> u16 {
@@ -80,6 +81,34 @@ impl Runner for Second {
         self.write(0, 0x04);
         self.0 = second::set_vb(&self.0, false, picture).state;
         self.0 = second::set_vb(&self.0, true, picture).state;
+    }
+}
+
+impl Draws for Plain {
+    fn write(&mut self, address: u8, value: u8) {
+        Plain::write(self, address, value);
+    }
+
+    fn grant(&mut self, n: u16, picture: &mut [u8], table: &[u8]) -> u16 {
+        Plain::grant(self, n, picture, table).unwrap_or(0)
+    }
+}
+
+impl Runner for Plain {
+    fn fresh() -> Plain {
+        let mut card = Plain::new(Format::Ef9366);
+        card.set_vb(true, &mut [0; 16_384]);
+        card
+    }
+
+    fn read(&mut self, address: u8) -> u16 {
+        Plain::read(self, address).map_or(0, u16::from)
+    }
+
+    fn clear(&mut self, picture: &mut [u8]) {
+        self.write(0, 0x04);
+        self.set_vb(false, picture);
+        self.set_vb(true, picture);
     }
 }
 

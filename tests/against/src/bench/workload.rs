@@ -1,5 +1,6 @@
 //! What is timed: each workload is one pass over a scene, the same for every contender.
 
+use super::figures::{set, Figures, Start, CYCLIC, DOWN, LETTERS, UP, VECTORS};
 use super::morning;
 use super::runner::Runner;
 use crate::random::Random;
@@ -7,57 +8,73 @@ use std::hint::black_box;
 
 #[derive(Clone, Copy, PartialEq, Eq, Debug)]
 pub enum Workload {
-    LongVectors,
-    Dotted,
+    /// Each run to its end by one grant.
+    Whole(Figures),
+    /// Each run to its end by grants of so many cycles.
+    Portions(Figures, u16),
+    /// STATUS read again and again while each waits for its cycles.
+    Looks(Figures),
     ShortVectors,
-    Characters { csize: u8 },
-    Blocks,
-    OneCycle,
-    OneCycleLetters,
     Writes,
     Reads,
-    StatusBusy,
     Clears,
     Morning,
 }
 
 /// By name, what it is, and the unit its time is given for.
-pub const ALL: [(&str, Workload, &str); 14] = [
-    ("long-vectors", Workload::LongVectors, "cycle"),
-    ("dotted", Workload::Dotted, "cycle"),
+pub const ALL: [(&str, Workload, &str); 22] = [
+    ("long-vectors", Workload::Whole(VECTORS), "cycle"),
+    ("dotted", Workload::Whole(vectors(DOWN, 3, Start::Inside)), "cycle"),
+    ("pen-up", Workload::Whole(vectors(UP, 0, Start::Inside)), "cycle"),
+    ("half-outside", Workload::Whole(vectors(DOWN, 0, Start::Across)), "cycle"),
+    ("cyclic", Workload::Whole(vectors(CYCLIC, 0, Start::Across)), "cycle"),
     ("short-vectors", Workload::ShortVectors, "vector"),
-    ("csize-11", Workload::Characters { csize: 0x11 }, "cycle"),
-    ("csize-44", Workload::Characters { csize: 0x44 }, "cycle"),
-    ("csize-00", Workload::Characters { csize: 0x00 }, "cycle"),
-    ("blocks", Workload::Blocks, "cycle"),
-    ("one-cycle", Workload::OneCycle, "call"),
-    ("one-cycle-letters", Workload::OneCycleLetters, "call"),
+    ("csize-11", Workload::Whole(letters(DOWN, 0x11)), "cycle"),
+    ("csize-44", Workload::Whole(letters(DOWN, 0x44)), "cycle"),
+    ("csize-00", Workload::Whole(letters(DOWN, 0x00)), "cycle"),
+    ("pen-up-letters", Workload::Whole(letters(UP, 0x11)), "cycle"),
+    ("blocks-11", Workload::Whole(Figures::Blocks { csize: 0x11 }), "cycle"),
+    ("blocks-44", Workload::Whole(Figures::Blocks { csize: 0x44 }), "cycle"),
+    ("one-cycle", Workload::Portions(VECTORS, 1), "call"),
+    ("one-cycle-letters", Workload::Portions(LETTERS, 1), "call"),
+    ("seven-cycles", Workload::Portions(VECTORS, 7), "call"),
+    ("seven-cycles-letters", Workload::Portions(LETTERS, 7), "call"),
     ("write", Workload::Writes, "call"),
     ("read", Workload::Reads, "call"),
-    ("status-busy", Workload::StatusBusy, "call"),
+    ("status-vectors", Workload::Looks(VECTORS), "call"),
+    ("status-letters", Workload::Looks(LETTERS), "call"),
     ("clear", Workload::Clears, "clear"),
     ("morning", Workload::Morning, "morning"),
 ];
 
+const fn vectors(ctrl1: u8, line_type: u8, start: Start) -> Figures {
+    Figures::Vectors { ctrl1, line_type, start }
+}
+
+const fn letters(ctrl1: u8, csize: u8) -> Figures {
+    Figures::Letters { ctrl1, csize }
+}
+
 pub struct Scene<R> {
     pub picture: Vec<u8>,
     table: Vec<u8>,
-    figures: [u8; morning::POINTS],
+    forecast: [u8; morning::POINTS],
     /// Commands about to run, or the one card that goes on.
     cards: Vec<R>,
+    /// How many grants or looks each of them gets.
+    calls: Vec<u16>,
 }
 
-const OCTANTS: [(u8, u16, u16); 4] = [(0x11, 100, 0), (0x13, 400, 0), (0x15, 100, 255), (0x17, 400, 255)];
 const REGISTERS: [u8; 8] = [1, 2, 3, 5, 7, 9, 11, 8];
 /// How often a host looks at STATUS while a command runs.
-const LOOKS: u64 = 16;
-const CHARACTERS: [u8; 10] = [0x41, 0x52, 0x33, 0x6B, 0x20, 0x7F, 0x2B, 0x58, 0x65, 0x39];
+const LOOKS: u16 = 16;
 
 impl Workload {
     pub fn scene<R: Runner>(self) -> Scene<R> {
         let mut table = vec![0; 480];
         Random::new(9366).fill(&mut table);
-        Scene { picture: vec![self.paper(); 16_384], table, figures: morning::figures(), cards: self.cards() }
+        let picture = vec![self.paper(); 16_384];
+        Scene { picture, table, forecast: morning::figures(), cards: self.cards(), calls: self.calls() }
     }
 
     /// Every byte of the picture before: lit where a pass leaves dots dark, so that what it did shows.
@@ -70,13 +87,8 @@ impl Workload {
 
     fn cards<R: Runner>(self) -> Vec<R> {
         match self {
-            Workload::LongVectors | Workload::OneCycle => octants(0),
-            Workload::Dotted => octants(3),
-            Workload::Characters { csize } => letters(csize),
-            Workload::OneCycleLetters => letters(0x11),
-            Workload::StatusBusy => octants(0).into_iter().chain(letters(0x11).into_iter().take(8)).collect(),
-            Workload::Blocks => {
-                [(3, 0x0A), (100, 0x0B), (200, 0x0A), (301, 0x0B)].map(|(x, code)| at(0x44, x, code)).into()
+            Workload::Whole(figures) | Workload::Portions(figures, _) | Workload::Looks(figures) => {
+                figures.cards()
             }
             Workload::ShortVectors => vec![set(R::fresh(), &[(1, 3), (8, 1), (11, 128)])],
             Workload::Clears => vec![R::fresh()],
@@ -84,16 +96,25 @@ impl Workload {
         }
     }
 
+    fn calls(self) -> Vec<u16> {
+        match self {
+            Workload::Whole(figures) => figures.cycles().iter().map(|_| 1).collect(),
+            Workload::Portions(figures, n) => {
+                figures.cycles().iter().map(|cycles| cycles.div_ceil(n)).collect()
+            }
+            Workload::Looks(figures) => figures.cycles().iter().map(|_| LOOKS).collect(),
+            _ => Vec::new(),
+        }
+    }
+
     /// Units of work in a pass.
     pub fn units(self) -> u64 {
         match self {
-            Workload::LongVectors | Workload::Dotted | Workload::OneCycle => 8 * 255,
+            Workload::Whole(figures) => figures.cycles().iter().map(|cycles| u64::from(*cycles)).sum(),
+            Workload::Portions(..) | Workload::Looks(_) => {
+                self.calls().iter().map(|calls| u64::from(*calls)).sum()
+            }
             Workload::ShortVectors => 128,
-            Workload::Characters { csize: 0 } => 10 * 12_288,
-            Workload::Characters { csize } => 10 * 48 * u64::from(csize >> 4) * u64::from(csize & 15),
-            Workload::Blocks => 2 * (48 + 16) * 16,
-            Workload::OneCycleLetters => 10 * 48,
-            Workload::StatusBusy => 16 * LOOKS,
             Workload::Writes | Workload::Reads => 16 * REGISTERS.len() as u64,
             Workload::Clears | Workload::Morning => 1,
         }
@@ -101,46 +122,19 @@ impl Workload {
 
     pub fn pass<R: Runner>(self, scene: &mut Scene<R>) {
         match self {
-            Workload::OneCycle => singly::<R, 255>(scene),
-            Workload::OneCycleLetters => singly::<R, 48>(scene),
-            Workload::StatusBusy => scene.cards.iter_mut().for_each(looks),
+            Workload::Whole(_) => run_out(scene),
+            Workload::Portions(_, n) => portions(scene, n),
+            Workload::Looks(_) => looks(scene),
             Workload::ShortVectors => short_vectors(scene),
             Workload::Writes => (0..16).for_each(|value| writes(&mut scene.cards[0], value)),
             Workload::Reads => (0..16).for_each(|_| reads(&mut scene.cards[0])),
             Workload::Clears => scene.cards[0].clear(black_box(&mut scene.picture)),
             Workload::Morning => {
-                let Scene { cards, figures, picture, table } = scene;
-                morning::whole(&mut cards[0], black_box(figures), picture, table);
+                let Scene { cards, forecast, picture, table, .. } = scene;
+                morning::whole(&mut cards[0], black_box(forecast), picture, table);
             }
-            _ => run_out(scene),
         }
     }
-}
-
-fn set<R: Runner>(mut card: R, writes: &[(u8, u8)]) -> R {
-    writes.iter().for_each(|(address, value)| card.write(*address, *value));
-    card
-}
-
-/// Vectors of 255 dots, two slopes in each quadrant.
-fn octants<R: Runner>(line_type: u8) -> Vec<R> {
-    let slopes = [(254, 97), (97, 254)];
-    let both = OCTANTS.iter().flat_map(|place| slopes.map(|slope| (*place, slope)));
-    both.map(|((code, x, y), (deltax, deltay))| {
-        let position = [(8, (x >> 8) as u8), (9, x as u8), (11, y as u8)];
-        let card = set(set(R::fresh(), &position), &[(1, 3), (2, line_type), (5, deltax), (7, deltay)]);
-        set(card, &[(0, code)])
-    })
-    .collect()
-}
-
-fn at<R: Runner>(csize: u8, x: u16, code: u8) -> R {
-    let place = [(8, (x >> 8) as u8), (9, x as u8), (11, 60), (1, 3), (3, csize)];
-    set(set(R::fresh(), &place), &[(0, code)])
-}
-
-fn letters<R: Runner>(csize: u8) -> Vec<R> {
-    CHARACTERS.iter().enumerate().map(|(i, code)| at(csize, 5 + 37 * i as u16, *code)).collect()
 }
 
 fn run_out<R: Runner>(scene: &mut Scene<R>) {
@@ -149,11 +143,20 @@ fn run_out<R: Runner>(scene: &mut Scene<R>) {
     }
 }
 
-fn singly<R: Runner, const CYCLES: usize>(scene: &mut Scene<R>) {
-    for card in &scene.cards {
+fn portions<R: Runner>(scene: &mut Scene<R>, n: u16) {
+    for (card, calls) in scene.cards.iter().zip(&scene.calls) {
         let mut card = card.clone();
-        for _ in 0..CYCLES {
-            card.grant(1, &mut scene.picture, &scene.table);
+        for _ in 0..*calls {
+            card.grant(n, &mut scene.picture, &scene.table);
+        }
+    }
+}
+
+/// STATUS, by a host that waits for the command to end.
+fn looks<R: Runner>(scene: &mut Scene<R>) {
+    for (card, calls) in scene.cards.iter_mut().zip(&scene.calls) {
+        for _ in 0..*calls {
+            black_box(card.read(black_box(0)));
         }
     }
 }
@@ -176,12 +179,5 @@ fn writes<R: Runner>(card: &mut R, value: u8) {
 fn reads<R: Runner>(card: &mut R) {
     for address in REGISTERS {
         black_box(card.read(black_box(address)));
-    }
-}
-
-/// STATUS, by a host that waits for the command to end.
-fn looks<R: Runner>(card: &mut R) {
-    for _ in 0..LOOKS {
-        black_box(card.read(black_box(0)));
     }
 }

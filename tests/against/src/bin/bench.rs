@@ -1,10 +1,11 @@
 //! bench: a table of times. bench list: each workload, its unit and its units in a pass.
 //! bench NAME REPEATS [CONTENDER]: one workload, over and over, for a profiler.
 
+use against::bench::plain::Plain;
 use against::bench::rounds::{table, Row, ROUNDS};
 #[cfg(linked)]
 use against::bench::runner::Ours;
-use against::bench::runner::{Runner, Second};
+use against::bench::runner::{Formulas, Runner};
 use against::bench::tuned::Tuned;
 use against::bench::workload::{Workload, ALL};
 use std::process::ExitCode;
@@ -23,7 +24,8 @@ fn main() -> ExitCode {
         }
         [name, repeats] => repeat(name, repeats, "ours"),
         [name, repeats, contender] => repeat(name, repeats, contender),
-        _ => Err("Give nothing, list, NAME REPEATS, or NAME REPEATS and ours, second or tuned.".to_string()),
+        _ => Err("Give nothing, list, NAME REPEATS, or NAME REPEATS and ours, plain, tuned or formulas."
+            .to_string()),
     };
     match done {
         Ok(()) => ExitCode::SUCCESS,
@@ -39,21 +41,17 @@ fn print(rows: &[Row]) {
         "Nanoseconds per unit, median of {ROUNDS} interleaved rounds; a ratio above 1 means ours is faster."
     );
     println!(
-        "{:<14} {:<8} {:>10} {:>10} {:>10} {:>12} {:>11}",
-        "workload", "unit", "ours", "second", "tuned", "second/ours", "tuned/ours"
+        "{:<20} {:<8} {:>10} {:>10} {:>10} {:>10} {:>11} {:>11}",
+        "workload", "unit", "ours", "plain", "tuned", "formulas", "plain/ours", "tuned/ours"
     );
     for row in rows {
-        print!("{:<14} {:<8} ", row.name, row.unit);
-        match row.ours {
-            Some(ours) => println!(
-                "{ours:>10.2} {:>10.2} {:>10.2} {:>12.2} {:>11.2}",
-                row.second,
-                row.tuned,
-                row.second / ours,
-                row.tuned / ours
-            ),
-            None => println!("{:>10} {:>10.2} {:>10.2} {:>12} {:>11}", "-", row.second, row.tuned, "-", "-"),
-        }
+        let ours = row.ours.map_or(["-".to_string(), "-".to_string(), "-".to_string()], |ours| {
+            [ours, row.plain / ours, row.tuned / ours].map(|figure| format!("{figure:.2}"))
+        });
+        println!(
+            "{:<20} {:<8} {:>10} {:>10.2} {:>10.2} {:>10.2} {:>11} {:>11}",
+            row.name, row.unit, ours[0], row.plain, row.tuned, row.formulas, ours[1], ours[2]
+        );
     }
     println!("tuned's clear is a plain fill.");
     if rows.iter().any(|row| row.ours.is_none()) {
@@ -72,9 +70,10 @@ fn repeat(name: &str, repeats: &str, contender: &str) -> Result<(), String> {
         "ours" => passes::<Ours>(*workload, repeats),
         #[cfg(not(linked))]
         "ours" => return Err("The library is x86-64 code: its own runs are taken on x86-64.".to_string()),
-        "second" => passes::<Second>(*workload, repeats),
+        "plain" => passes::<Plain>(*workload, repeats),
         "tuned" => passes::<Tuned>(*workload, repeats),
-        _ => return Err(format!("'{contender}' is not ours, second or tuned.")),
+        "formulas" => passes::<Formulas>(*workload, repeats),
+        _ => return Err(format!("'{contender}' is not ours, plain, tuned or formulas.")),
     }
     Ok(())
 }
