@@ -6,8 +6,9 @@ use mathlib.Core.List.{List, [], _∷_, _++_}
 use lib.Dec.{eqb, ltb, leb}
 use lib.ListN.{length, getD, replicate, take, drop}
 use Rattle.basis.specs.Reading.{Reading, each, joined, rows, told}
+use Rattle.parts.specs.declared.format.Format.the-variants.{Ef9366}
 use Rattle.rules.specs.Figure.{Tables, tables, turned, tilted, glyph}
-use Rattle.rules.specs.Cycles.{left, used, dots, after, penDown, lights, cyclic}
+use Rattle.rules.specs.Cycles.{left, used, dots, after, penDown, lights, cyclic, tip}
 use Rattle.rules.specs.Tables.Rows.{nth, but, stated, shown, rich}
 
 -- a table of the numbers 0 to 479, and one whose glyph of code 41 has bits of its own in each column: 01, 82, 00, 40, 18
@@ -188,6 +189,7 @@ ctrl1Bits =
     ∷ (joined (λ c1. c1 ∷ oneDot 517 c1) 0 16, 0 ∷ 1 ∷ 2 ∷ 3 ∷ 4 ∷ 5 ∷ 6 ∷ 7 ∷ 8 ∷ 9 ∷ 1541 ∷ 10 ∷ 11 ∷ 1541 ∷ 12 ∷ 13 ∷ 1541 ∷ 14 ∷ 15 ∷ 1541 ∷ [])
     ∷ (each (λ c1. told (penDown ((stated (but 1 c1 rich)) .regs))) 0 128, joined (λ i. 0 ∷ 1 ∷ []) 0 64)
     ∷ (each (λ c1. told (lights ((stated (but 1 c1 rich)) .regs))) 0 128, joined (λ i. 0 ∷ 0 ∷ 1 ∷ 1 ∷ []) 0 32)
+    ∷ (each (λ c1. told (tip Ef9366 ((stated (but 1 c1 rich)) .regs) .lit)) 0 128, joined (λ i. 0 ∷ 0 ∷ 1 ∷ 1 ∷ []) 0 32)
     ∷ (each (λ c1. told (cyclic ((stated (but 1 c1 rich)) .regs))) 0 128, joined (λ i. replicate 8 0 ++ replicate 8 1) 0 8)
     ∷ []
 

@@ -118,6 +118,11 @@ answerRows =
     ∷ (answered (answer 3 7 (stated other) (stated rich)), 3 ∷ 0 ∷ rich)
     ∷ (kept (outcome 0 7 (stated other) (memory (1 ∷ [])) (stated rich) (memory (2 ∷ []))), 0 ∷ 7 ∷ other ++ (1 ∷ []))
     ∷ (kept (outcome 2 7 (stated other) (memory (1 ∷ [])) (stated rich) (memory (2 ∷ []))), 2 ∷ 0 ∷ rich ++ (2 ∷ []))
+    -- by every number but 0
+    ∷ (
+      joined (λ n. kept (outcome n 7 (stated other) (memory (1 ∷ [])) (stated rich) (memory (2 ∷ [])))) 1 30,
+      joined (λ n. n ∷ 0 ∷ rich ++ (2 ∷ [])) 1 30,
+    )
     ∷ (kept (granted (stated rich) 5 (memory (9 ∷ [])) (tables [])), 2 ∷ 0 ∷ rich ++ (9 ∷ []))
     ∷ (kept (blanked (stated rich) true (memory (9 ∷ []))), 2 ∷ 0 ∷ rich ++ (9 ∷ []))
     -- a VB call that is accepted gives value 0 too, at a rise and with the present level
