@@ -3,7 +3,7 @@
 use mathlib.Core.Path.{_≡_, refl}
 use mathlib.Core.Bool.{true}
 use Rattle.basis.specs.Reading.{every}
-use Rattle.rules.specs.Tables.RegisterRows.{bytesThrough, oneChanges, addressNumbers, eachRead}
+use Rattle.rules.specs.Tables.RegisterRows.{bytesThrough, oneChanges, halves, addressNumbers, eachRead}
 use Rattle.rules.specs.Tables.CommandRows.{shortCommands, longCommands}
 use Rattle.rules.specs.Tables.FrameRows.{levels, levelsFlagged, pictures, openFrames, lpckEdges, statusRows, outsides}
 use Rattle.rules.specs.Tables.DrawRows.{strokeRows, lineTypeRows, letterRows, codeRows, turnedRows, nothingLeft, ctrl1Bits, ctrl2Bits}
@@ -19,6 +19,10 @@ bytes-through-hold = refl
 pub one-changes-hold : every oneChanges ≡ true
 unfolding computed
 one-changes-hold = refl
+
+pub halves-hold : every halves ≡ true
+unfolding computed
+halves-hold = refl
 
 pub address-numbers-hold : every addressNumbers ≡ true
 unfolding computed

@@ -5,7 +5,8 @@ use mathlib.Core.Bool.{Bool, true, false, cond, _||_, _&&_}
 use mathlib.Core.List.{List, [], _∷_, _++_}
 use lib.Dec.{eqb}
 use lib.ListN.{getD, replicate}
-use Rattle.basis.specs.Reading.{Reading, each, joined}
+use Rattle.basis.specs.Reading.{Reading, each, joined, told}
+use Rattle.rules.specs.Sequence.{clearLights}
 use Rattle.rules.specs.Blanking.{afterVb, pictureVb}
 use Rattle.rules.specs.Registers.{registerAt}
 use Rattle.rules.specs.Refusals.{bad}
@@ -79,6 +80,11 @@ pictures = (
     ∷ (
       joined (λ w. pictured w 0x7F 0 0 ++ (pictured w 0x7F 1 0 ++ pictured w 0x7F 1 1)) 0 6,
       joined (λ i. asIs) 0 18,
+    )
+    -- what a clear leaves, by what goes on and CTRL1 bit 1: lit only where 0C fills with the bit high
+    ∷ (
+      joined (λ w. each (λ bit1. told (clearLights ((stated (doing w rich)) .work) (high bit1))) 0 2) 0 6,
+      replicate 8 0 ++ (0 ∷ 1 ∷ 0 ∷ 1 ∷ []),
     )
     ∷ []
 

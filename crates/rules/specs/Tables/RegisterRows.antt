@@ -6,6 +6,7 @@ use lib.ListN.{replicate}
 use Rattle.basis.specs.Reading.{Reading, each, joined}
 use Rattle.parts.specs.declared.format.Format.the-variants.{Ef9366, FmatHigh, FmatLow}
 use Rattle.rules.specs.State.{fresh}
+use Rattle.rules.specs.Registers.{registerAt}
 use Rattle.rules.specs.Tables.Rows.{nth, but, stated, shown, writes, reads, gives, refuses, rich}
 
 -- 0 to n − 1, k times
@@ -52,6 +53,21 @@ oneChanges =
     ∷ (writes rich 0xA 0xF6, gives 0 (but 7 0x6DE rich))
     ∷ (writes rich 0xB 0xDA, gives 0 (but 7 0xCDA rich))
     ∷ []
+
+-- X or Y, number i of the row, on the first and the last place of its k-th 256
+unfoldable pub endsOf : ℕ → (List ℕ → ℕ) → ℕ → List ℕ
+endsOf i look k = look (but i (256 * k) rich) ∷ look (but i (256 * k + 255) rich) ∷ []
+
+-- its halves there, at the addresses a and a + 1: both read, and the lower one written
+unfoldable pub halvesOf : ℕ → ℕ → List Reading
+halvesOf i a =
+    (joined (endsOf i (λ r. nth 1 (reads r a))) 0 16, joined (λ k. k ∷ k ∷ []) 0 16)
+    ∷ (joined (endsOf i (λ r. nth 1 (reads r (a + 1)))) 0 16, joined (λ k. 0 ∷ 255 ∷ []) 0 16)
+    ∷ (joined (endsOf i (λ r. nth (i + 2) (writes r (a + 1) 0x5A))) 0 16, joined (λ k. steps (256 * k + 0x5A) 0 2) 0 16)
+    ∷ []
+
+unfoldable pub halves : List Reading
+halves = halvesOf 6 0x8 ++ halvesOf 7 0xA
 
 -- the numbers of all 256 addresses, written with 0 and read: 4 at 4, 6, E, F and above, 5 at C and D on writing
 unfoldable pub numbersOf : (ℕ → List ℕ) → List ℕ
@@ -115,6 +131,9 @@ eachRead =
     -- every value of XLP whose bit 1 is low, and what is left of it; the others are refused with 1
     ∷ (each (λ v. nth 10 (reads (but 8 v rich) 0xD)) 0 256, joined (λ i. steps (4 * i) 0 2 ++ steps (4 * i + 2) 1 2) 0 64)
     ∷ (each (λ v. nth 0 (reads (but 8 v rich) 0x1)) 0 256, joined (λ i. 0 ∷ 0 ∷ 1 ∷ 1 ∷ []) 0 64)
+    -- at an address without a register there is 0, which no read shows
+    ∷ (each (registerAt (stated rich)) 0xE 242, replicate 242 0)
+    ∷ (registerAt (stated rich) 0x4 ∷ registerAt (stated rich) 0x6 ∷ [], 0 ∷ 0 ∷ [])
     -- fresh
     ∷ (shown (fresh Ef9366), 0 ∷ 0 ∷ 0 ∷ 0x11 ∷ replicate 16 0)
     ∷ (shown (fresh FmatHigh), 1 ∷ 0 ∷ 0 ∷ 0x11 ∷ replicate 16 0)
