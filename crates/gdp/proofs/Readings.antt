@@ -21,6 +21,13 @@ pub grant-reads : Grants (bytes 0 0 0 3 0 0x11 5 0 0 0 0x10 8 0) 3 (replicate 16
 unfolding computed
 grant-reads = record { answers = refl; memories = refl }
 
+-- 32,768 cycles: all six, and the end
+pub grant-ends : Grants (bytes 0 0 0 3 0 0x11 5 0 0 0 0x10 8 0) 32768 (replicate 16384 0) (replicate 480 0)
+    (record { number = 0; value = 6; state = bytes 5 0 0 3 0 0x11 5 0 0 0 0 0 0 })
+    (63 ∷ replicate 16383 0)
+unfolding computed
+grant-ends = record { answers = refl; memories = refl }
+
 -- a picture of the table's length: 2; bytes that name nothing: 1; each as it came
 pub grant-refused : Grants (bytes 0 0 0 3 0 0x11 5 0 0 0 0x10 8 0) 3 (replicate 480 9) (replicate 16384 0)
     (record { number = 2; value = 0; state = bytes 0 0 0 3 0 0x11 5 0 0 0 0x10 8 0 })

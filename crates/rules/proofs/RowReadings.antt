@@ -9,6 +9,7 @@ use Rattle.rules.specs.Tables.FrameRows.{levels, levelsFlagged, pictures
 use Rattle.rules.specs.Tables.DrawRows.{strokeRows, lineTypeRows, letterRows, codeRows, turnedRows, nothingLeft, ctrl1Bits, ctrl2Bits}
 use Rattle.rules.specs.Tables.RefusalRows.{limits, progress, memories, answerRows, outputRows, events}
 use Rattle.rules.specs.Tables.FormatRows.{formatWrites, formatReads, formatFrames, flawRows}
+use Rattle.rules.specs.Tables.FreeRows.{freeWrites, freeReads, freeFrames, freeGrants, freeRefusals}
 use Rattle.rules.specs.Tables.Computed.{computed}
 
 -- every address, written and read
@@ -144,3 +145,24 @@ format-frames-hold = refl
 pub flaw-rows-hold : every flawRows ≡ true
 unfolding computed
 flaw-rows-hold = refl
+
+-- what has no part in a call
+pub free-writes-hold : every freeWrites ≡ true
+unfolding computed
+free-writes-hold = refl
+
+pub free-reads-hold : every freeReads ≡ true
+unfolding computed
+free-reads-hold = refl
+
+pub free-frames-hold : every freeFrames ≡ true
+unfolding computed
+free-frames-hold = refl
+
+pub free-grants-hold : every freeGrants ≡ true
+unfolding computed
+free-grants-hold = refl
+
+pub free-refusals-hold : every freeRefusals ≡ true
+unfolding computed
+free-refusals-hold = refl

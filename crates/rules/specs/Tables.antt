@@ -10,4 +10,5 @@ pub mod FrameRows
 pub mod DrawRows
 pub mod RefusalRows
 pub mod FormatRows
+pub mod FreeRows
 pub mod Computed

@@ -1,8 +1,9 @@
 -- Readings of figures: their cycles, the way to each, where they end, which cycles write.
 -- Assumes nothing.
-use Prim.Native.Nat.{ℕ}
+use Prim.Native.Nat.{ℕ, _/_, _%_}
 use mathlib.Core.Bool.{Bool, true, false}
 use mathlib.Core.List.{List, [], _∷_, _++_}
+use lib.Dec.{eqb}
 use lib.ListN.{replicate}
 use Rattle.basis.specs.Reading.{Reading, each, joined, told}
 use Rattle.motion.specs.declared.position.Spot.{Spot}
@@ -29,6 +30,8 @@ pairs at n = joined (λ i. pair (at i)) 0 n
 unfoldable pub counts : List Reading
 counts =
     (each (λ M. cyclesOf (stroke 3 M 0 false false false)) 0 9, 1 ∷ 2 ∷ 3 ∷ 4 ∷ 5 ∷ 6 ∷ 7 ∷ 8 ∷ 9 ∷ [])
+    -- an off dot uses its cycle, in every line type
+    ∷ (joined (λ c. each (λ M. cyclesOf (stroke c M 0 false false false)) 0 33) 0 16, joined (λ c. each (λ n. n) 1 33) 0 16)
     ∷ (cyclesOf (stroke 0 255 7 true true true) ∷ cyclesOf (stroke 7 5 2 true false true) ∷ [], 256 ∷ 6 ∷ [])
     ∷ (cyclesOf (cells false 2 3 12 24) ∷ cyclesOf (cells true 2 3 12 24) ∷ cyclesOf (cells false 16 16 96 128) ∷ [], 288 ∷ 288 ∷ 12288 ∷ [])
     ∷ (cyclesOf Pause ∷ cyclesOf Nothing ∷ [], 1 ∷ 0 ∷ [])
@@ -101,6 +104,10 @@ writing =
     ∷ (
       wrote (cells false 2 1 12 8) glyph 96,
       again 2 column0 ++ again 2 column1 ++ again 2 column2 ++ again 2 column3 ++ again 2 column4 ++ replicate 16 0,
+    )
+    ∷ (
+      joined (λ k. wrote (stroke 1 200 3 (eqb (k % 2) 1) (eqb (k / 2 % 2) 1) (eqb (k / 4) 1)) glyph 8) 0 8,
+      again 16 (1 ∷ 1 ∷ 0 ∷ 0 ∷ []),
     )
     ∷ (wrote (cells true 1 2 6 16) glyph 96, stretched 2 (column0 ++ column1 ++ column2 ++ column3 ++ column4 ++ replicate 8 0))
     -- a block all on

@@ -1,6 +1,6 @@
 -- Readings of runs: where a figure starts, stands and rests, and its dots in a window of 16 by 8.
 -- Assumes nothing.
-use Prim.Native.Nat.{ℕ}
+use Prim.Native.Nat.{ℕ, _%_}
 use mathlib.Core.Bool.{Bool, true, false}
 use mathlib.Core.List.{List, [], _∷_, _++_}
 use Rattle.basis.specs.Reading.{Reading, joined}
@@ -71,6 +71,7 @@ marks =
     ∷ (mark pen false 3 2 ++ mark (tip false true false) true 3 2 ++ mark (tip false false true) true 3 2 ++ mark (tip false true false) false 3 2, [])
     ∷ (mark pen true 15 7 ++ mark pen true 16 7 ++ mark pen true 15 8 ++ mark pen true 4095 0, 127 ∷ [])
     ∷ (mark cyclicPen true 16 7 ++ mark cyclicPen true 15 8 ++ mark cyclicPen true 4095 4095, 112 ∷ 15 ∷ 127 ∷ [])
+    ∷ (mark (tip true false true) true 3 2 ++ mark (tip true false true) true 19 10 ++ mark (tip true false true) false 3 2, 35 ∷ 35 ∷ [])
     ∷ []
 
 -- all dots of a figure's first n cycles from (x, y)
@@ -106,5 +107,14 @@ drawings =
     ∷ (drawn (tip false true false) flat 0 0 6 ++ drawn (tip false false true) (cells false 1 1 6 8) 0 0 48, [])
     ∷ (drawn pen Pause 0 0 1 ++ drawn pen Nothing 0 0 1, [])
     ∷ (drawn (tip true false false) flat 0 0 6, 0 ∷ 1 ∷ 18 ∷ 19 ∷ 36 ∷ 37 ∷ [])
+    ∷ (drawn (tip true false false) (stroke 1 5 2 false false false) 0 0 6, 0 ∷ 1 ∷ 36 ∷ 37 ∷ [])
+    ∷ (drawn (tip true false false) (cells false 1 1 6 8) 1 0 16, 1 ∷ 18 ∷ 114 ∷ [])
+    ∷ (drawn (tip false true false) (cells true 1 1 6 8) 9 0 48 ++ drawn (tip false true true) (stroke 1 5 2 false false false) 0 0 6, [])
+    -- a character on a cyclic screen comes in again
+    ∷ (drawn cyclicPen (cells false 1 1 6 8) 17 8 16, 1 ∷ 18 ∷ 114 ∷ [])
+    -- a dashed vector rests on its last dot, though that is off
+    ∷ (pair (restOf (stroke 1 3 0 false false false) (spot 7 9) 4), 10 ∷ 9 ∷ [])
+    -- all 300 dots of a run
+    ∷ (dotsFrom cyclicPen (stroke 0 299 0 false false false) glyph (spot 0 0) 0 300, joined (λ i. (i % 16) ∷ []) 0 300)
     ∷ (dotOf pen flat glyph (spot 3 1) 2 ++ dotOf pen flat glyph (spot 3 7) 2 ++ dotOf pen Pause glyph (spot 3 1) 0, 37 ∷ [])
     ∷ []

@@ -1,6 +1,6 @@
 -- What the calls answer over sixteen bytes: bytes that name nothing, refusals, the fresh state, VB's level.
 -- Assumes nothing.
-use Prim.Native.Nat.{ℕ, _+_, _-_, _*_}
+use Prim.Native.Nat.{ℕ, _+_, _-_, _*_, _^_}
 use mathlib.Core.Bool.{Bool, true, false}
 use mathlib.Core.List.{List, [], _∷_, _++_}
 use lib.ListN.{replicate}
@@ -53,6 +53,8 @@ flaws =
           ∷ flawedStep 0x0F 0 0 ∷ flawedStep 0x0F 1 0 ∷ flawedStep 0x41 0 4 ∷ flawedStep 0x0B 0 4 ∷ flawedStep 0x11 0 4 ∷ [],
       1 ∷ 1 ∷ 0 ∷ 1 ∷ 0 ∷ 1 ∷ 0 ∷ 1 ∷ 1 ∷ 1 ∷ 0 ∷ [],
     )
+    -- what is left over of a code and a progress is no matter, idle or while a clear runs
+    ∷ (over (0 ∷ 1 ∷ 0x10 ∷ 0x32 ∷ 0x50 ∷ 0x70 ∷ []) (λ (m : ℕ). told (flawed (bytes 0 0 65535 0 0 0x11 0 0 0 0 255 m 0)) ∷ []), replicate 6 0)
     ∷ []
 
 -- Answers ---------------------------------------------------------------------------------------------------------------
@@ -60,6 +62,10 @@ flaws =
 -- a verdict of some number: value 513 and a state of its own, FMAT low, a clear 0C inside its frame, the pen's sequence waiting
 unfoldable pub verdict : ℕ → Verdict
 verdict k = record { number = k; value = 513; state = own FmatLow (Clear true true) Waiting false true false true }
+
+-- an accepted one of some value
+unfoldable pub valued : ℕ → Verdict
+valued v = record { number = 0; value = v; state = (verdict 0) .state }
 
 -- the row of bytes m, g with left-overs, as they came; that of an answer which is accepted
 unfoldable pub came : ℕ → ℕ → List ℕ
@@ -77,6 +83,11 @@ answerReadings =
     (
       joined (λ (k : ℕ). answerRow (answerOf (ownBytes 0x80 0x81) (verdict k))) 0 256,
       (0 ∷ 513 ∷ goes) ++ joined (λ (k : ℕ). k ∷ 513 ∷ came 0x80 0x81) 1 255,
+    )
+    -- each bit of a value, and the cycles of the largest character
+    ∷ (
+      each (λ (i : ℕ). (answerOf (ownBytes 0 0) (valued (2 ^ i))) .value) 0 16 ++ ((answerOf (ownBytes 0 0) (valued 12288)) .value ∷ []),
+      each (λ (i : ℕ). 2 ^ i) 0 16 ++ (12288 ∷ []),
     )
     -- bytes that name nothing: 1, value 0, as they came, whatever the verdict
     ∷ (
@@ -101,6 +112,10 @@ answerReadings =
     ∷ (
       joined (λ (g : ℕ). outputsRow (outputsOf (ownBytes 0 g) (place 0))) 0 256,
       over namedBySignals (λ (n : ℕ). (1 - n) ∷ (41 * n) ∷ (38 * n) ∷ (12 * n) ∷ []),
+    )
+    ∷ (
+      outputsRow (outputsOf (ownBytes 0 0) (record { number = 0; address = record { low = 127; high = 126; msl = 15 } })),
+      0 ∷ 127 ∷ 126 ∷ 15 ∷ [],
     )
     -- a fresh state: CSIZE 11, all else 0 but the format; no such format: 1, and every byte 255
     ∷ (byteRow allOnes, 65535 ∷ 65535 ∷ 65535 ∷ replicate 10 255)

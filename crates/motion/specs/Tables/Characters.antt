@@ -117,6 +117,17 @@ cellWays =
     ∷ (cycles (bodyY true letter) letter, stairs 24 12)
     ∷ (bodyEndX false letter ∷ bodyEndY false letter ∷ bodyEndX true letter ∷ bodyEndY true letter ∷ [], 12 ∷ 0 ∷ 0 ∷ 12 ∷ [])
     ∷ (bodyEndX false box ∷ bodyEndY false box ∷ bodyEndX true box ∷ bodyEndY true box ∷ [], 12 ∷ 0 ∷ 0 ∷ 12 ∷ [])
+    -- the same of a body that is wider than it is high, and of the largest
+    ∷ (cycles (bodyX false box) box, stairs 8 12)
+    ∷ (cycles (bodyY false box) box, again 12 (upTo 8))
+    ∷ (cycles (bodyX true box) box, again 12 (downTo 8))
+    ∷ (cycles (bodyY true box) box, stairs 8 12)
+    ∷ (
+      bodyEndX false largest ∷ bodyEndY false largest ∷ bodyEndX true largest ∷ bodyEndY true largest ∷ [],
+      96 ∷ 0 ∷ 0 ∷ 96 ∷ [],
+    )
+    ∷ (map (bodyX false largest) some, 0 ∷ 0 ∷ 0 ∷ 0 ∷ 1 ∷ 1 ∷ 2 ∷ 15 ∷ 16 ∷ 31 ∷ 95 ∷ [])
+    ∷ (map (bodyY true largest) some, 0 ∷ 0 ∷ 0 ∷ 0 ∷ 1 ∷ 1 ∷ 2 ∷ 15 ∷ 16 ∷ 31 ∷ 95 ∷ [])
     ∷ []
 
 -- the dots of a glyph, column after column from 0 to 6, in each the rows from 0 to 9

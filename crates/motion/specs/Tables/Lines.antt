@@ -77,6 +77,7 @@ unfoldable pub counts : List Reading
 counts =
     (each (λ M. vectorCycles (line M 0 false false false)) 0 256, each (λ n. n) 1 256)
     ∷ (vectorCycles (line 5 2 true true true) ∷ vectorCycles (line 200 200 false true false) ∷ [], 6 ∷ 201 ∷ [])
+    ∷ (each (λ M. vectorCycles (line M 0 true true true)) 0 256, each (λ n. n) 1 256)
     ∷ []
 
 -- what a vector goes along X, along Y, and what is added to X and to Y for it, over n dots

@@ -63,6 +63,7 @@ places =
     ∷ (pair (moved (spot 10 3) (spot 4095 4090)), 9 ∷ 4093 ∷ [])
     ∷ (pair (moved (spot 10 3) (spot 4096 4096)), 10 ∷ 3 ∷ [])
     ∷ (pair (moved (spot 4095 4095) (spot 0 0)), 4095 ∷ 4095 ∷ [])
+    ∷ (pair (moved (spot 4095 4095) (spot 1 1)) ++ pair (movedBack (spot 0 0) (spot 1 1)), 0 ∷ 0 ∷ 4095 ∷ 4095 ∷ [])
     ∷ (pair (movedBack (spot 300 700) (spot 20 5)), 280 ∷ 695 ∷ [])
     ∷ (pair (movedBack (spot 14 705) (spot 20 5)), 4090 ∷ 700 ∷ [])
     ∷ (pair (movedBack (spot 320 3) (spot 20 5)), 300 ∷ 4094 ∷ [])

@@ -109,6 +109,7 @@ lines =
     ∷ (shorts 2 5, again 8 (shortest 2 ++ shortest 5) ++ shortShorts)
     ∷ (shorts 200 0, again 8 (shortest 0 ++ shortest 200) ++ shortShorts)
     ∷ (shorts 200 255, again 8 (shortest 200 ++ shortest 255) ++ shortShorts)
+    ∷ (shorts 128 127, again 8 (shortest 127 ++ shortest 128) ++ shortShorts)
     ∷ (steeps 5 2, again 16 steepWide ++ shortSteeps)
     ∷ (steeps 2 5, again 8 (steepTall ++ steepWide) ++ shortSteeps)
     ∷ (steeps 7 7, again 16 steepWide ++ shortSteeps)

@@ -98,6 +98,17 @@ dots =
     ∷ (whole true (1 ∷ 2 ∷ 3 ∷ []), 255 ∷ 255 ∷ 255 ∷ [])
     ∷ (whole false (1 ∷ 2 ∷ 3 ∷ 4 ∷ []), 0 ∷ 0 ∷ 0 ∷ 0 ∷ [])
     ∷ (whole true [] ++ whole false [], [])
+    ∷ (whole true (255 ∷ 0 ∷ 255 ∷ 7 ∷ []) ++ whole false (0 ∷ 255 ∷ 0 ∷ 7 ∷ []), 255 ∷ 255 ∷ 255 ∷ 255 ∷ 0 ∷ 0 ∷ 0 ∷ 0 ∷ [])
+    -- the largest picture, of 32,768 bytes: whole, and its last dots
+    ∷ (whole true (replicate 32768 1) ++ whole false (replicate 32768 1), replicate 32768 255 ++ replicate 32768 0)
+    ∷ (
+      setDot true 262143 (replicate 32768 0) ++ setDot true 131072 (replicate 32768 0),
+      replicate 32767 0 ++ (128 ∷ (replicate 16384 0 ++ (1 ∷ replicate 16383 0))),
+    )
+    ∷ (
+      map (λ d. told (dotAt (replicate 16384 0 ++ replicate 16384 255) d)) (0 ∷ 2048 ∷ 65536 ∷ 131071 ∷ 131072 ∷ 196608 ∷ 262143 ∷ 262144 ∷ []),
+      0 ∷ 0 ∷ 0 ∷ 0 ∷ 1 ∷ 1 ∷ 1 ∷ 0 ∷ [],
+    )
     ∷ []
 
 unfoldable pub screen : ℕ → ℕ → Bool → Window
@@ -144,6 +155,12 @@ places =
     ∷ (along (screen 512 256 true) 0, 1 ∷ 256 ∷ 257 ∷ 512 ∷ 1 ∷ 512 ∷ [])
     ∷ (along (screen 512 256 true) 256, 1 ∷ 256 ∷ 257 ∷ 512 ∷ 1 ∷ 512 ∷ [])
     ∷ (along (screen 512 256 true) 4095, 130561 ∷ 130816 ∷ 130817 ∷ 131072 ∷ 130561 ∷ 131072 ∷ [])
+    -- 512 by 512: the lines from 256 on
+    ∷ (along (screen 512 512 false) 256, 131073 ∷ 131328 ∷ 131329 ∷ 131584 ∷ 0 ∷ 0 ∷ [])
+    ∷ (along (screen 512 512 false) 511, 261633 ∷ 261888 ∷ 261889 ∷ 262144 ∷ 0 ∷ 0 ∷ [])
+    ∷ (along (screen 512 512 false) 512 ++ along (screen 512 512 false) 4095, replicate 12 0)
+    ∷ (along (screen 512 512 true) 4095, 261633 ∷ 261888 ∷ 261889 ∷ 262144 ∷ 261633 ∷ 262144 ∷ [])
+    ∷ (along (screen 512 512 true) 512, 1 ∷ 256 ∷ 257 ∷ 512 ∷ 1 ∷ 512 ∷ [])
     ∷ (along (screen 256 256 false) 1, 257 ∷ 512 ∷ 0 ∷ 0 ∷ 0 ∷ 0 ∷ [])
     ∷ (along (screen 256 256 true) 257, 257 ∷ 512 ∷ 257 ∷ 512 ∷ 257 ∷ 512 ∷ [])
     ∷ []

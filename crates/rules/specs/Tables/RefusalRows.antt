@@ -83,6 +83,12 @@ progress = (
       each (λ c. flaw (doing 0x4 c 0)) 0 256,
       replicate 15 1 ++ (replicate 17 0 ++ (replicate 96 1 ++ replicate 128 0)),
     )
+    -- past the count as at it; tilted and turned, at its last cycle, as tilted alone
+    ∷ (each (λ c. flaw (doing 0 c (lengthOf c + 1))) 0 256 ++ each (λ c. flaw (doing 0 c 65535)) 0 256, replicate 512 1)
+    ∷ (
+      each (λ c. flaw (doing 0xC c (lengthOf c - 1))) 0 256,
+      replicate 15 1 ++ (replicate 17 0 ++ (replicate 96 1 ++ replicate 128 0)),
+    )
     ∷ []
 
 -- pictures and tables one byte short and one too long, in each format; idle, with no cycle asked, or not
@@ -102,6 +108,11 @@ memories = (
     ∷ (
       lent 0 0 16384 479 ++ (lent 0 1 16384 481 ++ (lent 2 1 8192 0 ++ lent 2 0 8191 479)),
       3 ∷ 0 ∷ 3 ∷ 0 ∷ 3 ∷ 0 ∷ 2 ∷ 2 ∷ [],
+    )
+    -- twice a table; another format's picture
+    ∷ (
+      lent 0 0 16384 960 ++ (lent 0 0 32768 480 ++ (lent 2 1 32768 480 ++ (lent 1 0 16384 480 ++ lent 2 0 16384 480))),
+      3 ∷ 0 ∷ replicate 8 2,
     )
     ∷ []
 
