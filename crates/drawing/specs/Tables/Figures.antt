@@ -50,6 +50,8 @@ ways =
     -- u and, within it, v; turned (−v, u)
     ∷ (pairs (way (cells false 1 1 2 3)) 6, 0 ∷ 0 ∷ 0 ∷ 1 ∷ 0 ∷ 2 ∷ 1 ∷ 0 ∷ 1 ∷ 1 ∷ 1 ∷ 2 ∷ [])
     ∷ (pairs (way (cells true 1 1 2 3)) 6, 4096 ∷ 0 ∷ 4095 ∷ 0 ∷ 4094 ∷ 0 ∷ 4096 ∷ 1 ∷ 4095 ∷ 1 ∷ 4094 ∷ 1 ∷ [])
+    ∷ (pair (way (cells false 16 16 96 128) 5000) ++ pair (way (cells false 16 16 96 128) 12287), 39 ∷ 8 ∷ 95 ∷ 127 ∷ [])
+    ∷ (pair (way (cells true 16 16 96 128) 5000) ++ pair (way (cells true 16 16 96 128) 12287), 4088 ∷ 39 ∷ 3969 ∷ 95 ∷ [])
     ∷ (pairs (way Pause) 3 ++ pairs (way Nothing) 3, replicate 12 0)
     -- a vector ends on its last dot
     ∷ (pair (endWay (stroke 0 5 2 false false false)), 5 ∷ 2 ∷ [])
@@ -110,6 +112,13 @@ writing =
       again 16 (1 ∷ 1 ∷ 0 ∷ 0 ∷ []),
     )
     ∷ (wrote (cells true 1 2 6 16) glyph 96, stretched 2 (column0 ++ column1 ++ column2 ++ column3 ++ column4 ++ replicate 8 0))
+    -- at P 16 and Q 16 the cycles from 4,096 and 8,192 on are columns 2 and 4: their two bottom rows of 16; the last is blank
+    ∷ (
+      told (writes (cells false 16 16 96 128) glyph 4096) ∷ told (writes (cells false 16 16 96 128) glyph 4128)
+          ∷ told (writes (cells false 16 16 96 128) glyph 8192) ∷ told (writes (cells false 16 16 96 128) glyph 8208)
+          ∷ told (writes (cells false 16 16 96 128) glyph 12287) ∷ [],
+      0 ∷ 1 ∷ 0 ∷ 1 ∷ 0 ∷ [],
+    )
     -- a block all on
     ∷ (wrote (cells false 2 1 8 4) (replicate 5 255) 32, replicate 32 1)
     -- one cycle without a dot

@@ -76,9 +76,15 @@ letter = body 2 3 12 24
 unfoldable pub box : Body
 box = body 3 2 12 8
 
--- the largest character, P and Q 16, 96 by 128, at some of its 12,288 cycles
+-- the largest character, P and Q 16, 96 by 128, of whose 12,288 cycles some are read; P 1 and Q 16; P 16 and Q 1
 unfoldable pub largest : Body
 largest = body 16 16 96 128
+
+unfoldable pub narrow : Body
+narrow = body 1 16 6 128
+
+unfoldable pub broad : Body
+broad = body 16 1 96 8
 
 unfoldable pub some : List ℕ
 some = 0 ∷ 15 ∷ 16 ∷ 127 ∷ 128 ∷ 255 ∷ 256 ∷ 2047 ∷ 2048 ∷ 4095 ∷ 12287 ∷ []
@@ -99,6 +105,11 @@ cells =
     ∷ (map (columnOf largest) some, 0 ∷ 0 ∷ 0 ∷ 0 ∷ 0 ∷ 0 ∷ 0 ∷ 0 ∷ 1 ∷ 1 ∷ 5 ∷ [])
     ∷ (map (rowOf largest) some, 0 ∷ 0 ∷ 1 ∷ 7 ∷ 0 ∷ 7 ∷ 0 ∷ 7 ∷ 0 ∷ 7 ∷ 7 ∷ [])
     ∷ (map (bodyX true largest) some, 4096 ∷ 4081 ∷ 4080 ∷ 3969 ∷ 4096 ∷ 3969 ∷ 4096 ∷ 3969 ∷ 4096 ∷ 3969 ∷ 3969 ∷ [])
+    -- the highest and narrowest, P 1 and Q 16, and the widest and lowest, P 16 and Q 1
+    ∷ (cycles (columnOf narrow) narrow, stairs 128 6)
+    ∷ (cycles (rowOf narrow) narrow, again 6 (stairs 16 8))
+    ∷ (cycles (columnOf broad) broad, stairs 128 6)
+    ∷ (cycles (rowOf broad) broad, again 96 (upTo 8))
     -- by the body's own numbers
     ∷ (bodyCycles (body 2 3 5 7) ∷ uOf (body 2 3 5 7) 34 ∷ vOf (body 2 3 5 7) 34 ∷ [], 35 ∷ 4 ∷ 6 ∷ [])
     ∷ (columnOf (body 2 3 5 7) 34 ∷ rowOf (body 2 3 5 7) 34 ∷ rowOf (body 2 3 5 7) 30 ∷ [], 2 ∷ 2 ∷ 0 ∷ [])

@@ -10,9 +10,9 @@ use Rattle.motion.specs.Glyph.{glyphOf, solidGlyph, inked}
 use Rattle.motion.specs.Tables.Positions.{again, pair, edges, steps, distances, places, dots, dashDot, lineTypes}
 use Rattle.motion.specs.Tables.Vectors.{codes, signs, given, fanX, fanY, lengths, longWide, longTall, shortest, steepWide, steepTall, longs, shorts, steeps, shortLongs, shortShorts, shortSteeps, lines, vectorCodes}
 use Rattle.motion.specs.Tables.Lines.{whole, offsets, line, counts, goes, eightWays, less, ways, apart}
-use Rattle.motion.specs.Tables.Characters.{byUpper, byLower, halves, fourfold, sixfold, eightfold, products, sizes, body, stairs, upTo, cycles, letter, box, largest, some, cells, downTo, cellWays, dotsOf, glyphs}
+use Rattle.motion.specs.Tables.Characters.{byUpper, byLower, halves, fourfold, sixfold, eightfold, products, sizes, body, stairs, upTo, cycles, letter, box, largest, narrow, broad, some, cells, downTo, cellWays, dotsOf, glyphs}
 use Rattle.motion.specs.Tables.Readings.{readings}
 
 unfoldable pub computed : Unit {0}
-unfolding reading of-picture moved movedBack lineOn givenX givenY lengthX lengthY minusX minusY lineOf vectorCycles offset alongX alongY vectorX vectorY dist scale scaleP scaleQ characterOf blockOf bodyCycles uOf vOf columnOf rowOf bodyX bodyY bodyEndX bodyEndY glyphOf solidGlyph inked again pair edges steps distances places dots dashDot lineTypes codes signs given fanX fanY lengths longWide longTall shortest steepWide steepTall longs shorts steeps shortLongs shortShorts shortSteeps lines vectorCodes whole offsets line counts goes eightWays less ways apart byUpper byLower halves fourfold sixfold eightfold products sizes body stairs upTo cycles letter box largest some cells downTo cellWays dotsOf glyphs readings
+unfolding reading of-picture moved movedBack lineOn givenX givenY lengthX lengthY minusX minusY lineOf vectorCycles offset alongX alongY vectorX vectorY dist scale scaleP scaleQ characterOf blockOf bodyCycles uOf vOf columnOf rowOf bodyX bodyY bodyEndX bodyEndY glyphOf solidGlyph inked again pair edges steps distances places dots dashDot lineTypes codes signs given fanX fanY lengths longWide longTall shortest steepWide steepTall longs shorts steeps shortLongs shortShorts shortSteeps lines vectorCodes whole offsets line counts goes eightWays less ways apart byUpper byLower halves fourfold sixfold eightfold products sizes body stairs upTo cycles letter box largest narrow broad some cells downTo cellWays dotsOf glyphs readings
 computed = tt

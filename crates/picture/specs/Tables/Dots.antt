@@ -93,6 +93,7 @@ dots =
     ∷ (gathered (λ i. replicate i i) 0 4, 1 ∷ 2 ∷ 2 ∷ 3 ∷ 3 ∷ 3 ∷ [])
     ∷ (gathered (λ i. i ∷ []) 9 0, [])
     ∷ (gathered (λ i. i ∷ []) 9 1, 9 ∷ [])
+    ∷ (gathered (λ i. i ∷ []) 250 10 ++ gathered (λ i. i ∷ []) 4090 10, from 250 10 ++ from 4090 10)
     -- a whole picture lit, dark
     ∷ (solid true ∷ solid false ∷ [], 255 ∷ 0 ∷ [])
     ∷ (whole true (1 ∷ 2 ∷ 3 ∷ []), 255 ∷ 255 ∷ 255 ∷ [])

@@ -7,7 +7,7 @@ use mathlib.Core.List.{List, [], _∷_, _++_}
 use lib.Dec.{ltb}
 use lib.ListN.{length, getD, replicate, drop}
 use Rattle.basis.specs.Reading.{Reading, each, joined}
-use Rattle.rules.specs.Cycles.{left, dots, after}
+use Rattle.rules.specs.Cycles.{left, used, dots, after}
 use Rattle.rules.specs.Blanking.{afterVb, pictureVb}
 use Rattle.rules.specs.Registers.{registerAt}
 use Rattle.rules.specs.Calls.{memory, written, granted, located}
@@ -163,6 +163,10 @@ half n = 1 + (n + 15) % 16
 unfoldable pub stands : ℕ → ℕ → List ℕ
 stands c n = let r = shown (after (stated (any 0x00 c)) n) in nth 6 r ∷ nth 7 r ∷ []
 
+-- code 41 at CSIZE 00
+unfoldable pub large : ℕ → ℕ → ℕ → List ℕ
+large p x y = but 3 0 (but 6 x (but 7 y (but 12 p (any 0x00 0x41))))
+
 -- the call of 3 cycles on a card of FMAT low: number, value, row and picture
 unfoldable pub grantedTo : List ℕ → List ℕ
 grantedTo r = kept (granted (stated r) 3 (memory (replicate 8192 0)) counted)
@@ -222,6 +226,11 @@ freeGrants =
     ∷ (
       joined (λ k. inPortions 0x00 (getD portioned k 0)) 0 12 ++ (inPortions 0x08 0x41 ++ inPortions 0x09 0x0B),
       joined (λ k. atOnce 0x00 (getD portioned k 0)) 0 12 ++ (atOnce 0x08 0x41 ++ atOnce 0x09 0x0B),
+    )
+    -- the 12,288 cycles of the largest character in portions of 5,000
+    ∷ (
+      shown (after (stated (large 0 300 200)) 5000) ++ (shown (after (stated (large 5000 339 208)) 5000) ++ (used (stated (large 10000 378 216)) 65535 ∷ [])),
+      large 5000 339 208 ++ (large 10000 378 216 ++ (2288 ∷ [])),
     )
     -- where X and Y stand in between: a block of 8 by 12, E9, and 16 by 5
     ∷ (joined (stands 0x0B) 0 26, joined (λ n. (300 + n / 12) ∷ (200 + n % 12) ∷ []) 0 26)
