@@ -1,7 +1,7 @@
 -- What has no part in a call: the flags, VB, the pen's sequence, the bits of CTRL1 that it does not look at, how many grants its
 -- cycles came in. Rows that differ in these alone lead to the same, row by row.
 -- Assumes nothing.
-use Prim.Native.Nat.{ℕ, _+_, _*_, _/_, _%_}
+use Prim.Native.Nat.{ℕ, _+_, _*_, _/_, _%_, _^_}
 use mathlib.Core.Bool.{true, cond}
 use mathlib.Core.List.{List, [], _∷_, _++_}
 use lib.Dec.{ltb}
@@ -15,7 +15,7 @@ use Rattle.rules.specs.Tables.Rows.{nth, but, stated, shown, writes, rea
 use Rattle.rules.specs.Tables.RegisterRows.{running, clearing, flagged}
 use Rattle.rules.specs.Tables.FrameRows.{doing, scene, pictured}
 use Rattle.rules.specs.Tables.DrawRows.{counted, lettered, full, granting, stroke, letter, any}
-use Rattle.rules.specs.Tables.RefusalRows.{flaws, kept, outputs}
+use Rattle.rules.specs.Tables.RefusalRows.{flaw, flaws, kept, outputs}
 
 -- a row whose other things are otherwise: all flags set; the pen's sequence waits, or is open; VB is high; VB is high, the pen
 -- waits and its flag is set; a number is before the row by so many places
@@ -73,6 +73,13 @@ freeWrites =
 
 -- Reads and outputs ---------------------------------------------------------------------------------------------------
 
+-- what address a reads as number i of the row goes from 0 on; those n numbers
+unfoldable pub valuesAt : ℕ → ℕ → ℕ → List ℕ
+valuesAt i a n = each (λ v. nth 1 (reads (but i v rich) a)) 0 n
+
+unfoldable pub counting : ℕ → List ℕ
+counting n = each (λ v. v) 0 n
+
 unfoldable pub freeReads : List Reading
 freeReads = (
   joined (λ k. joined (λ a. reads (other 0 k rich) a) 1 16) 0 5,
@@ -83,6 +90,9 @@ freeReads = (
       reads (but 15 2 flagged) 0x0 ++ (reads (but 16 1 flagged) 0x0 ++ reads (but 15 1 (but 16 1 flagged)) 0x0),
       gives 0xFC (but 15 2 rich) ++ (gives 0xFF (but 16 1 rich) ++ gives 0xFE (but 15 1 (but 16 1 rich))),
     )
+    -- every value of a register is read as it is; of XLP each with bit 1 low
+    ∷ (valuesAt 1 0x1 128 ++ (valuesAt 2 0x2 16 ++ (valuesAt 3 0x3 256 ++ (valuesAt 4 0x5 256 ++ (valuesAt 5 0x7 256 ++ valuesAt 9 0xD 256)))), counting 128 ++ (counting 16 ++ (counting 256 ++ (counting 256 ++ (counting 256 ++ counting 256)))))
+    ∷ (joined (λ i. nth 1 (reads (but 8 (4 * i) rich) 0xC) ∷ nth 1 (reads (but 8 (4 * i + 1) rich) 0xC) ∷ []) 0 64, joined (λ i. (4 * i) ∷ (4 * i + 1) ∷ []) 0 64)
     -- bit 3 by X alone and by Y alone, at their last places
     ∷ (
       joined (λ f. each (λ i. registerAt (stated (but i 4095 (but 0 f (but 6 0 (but 7 0 rich))))) 0x0) 6 2) 0 3,
@@ -202,14 +212,19 @@ freeGrants =
           ++ dots (stated (but 0 2 (but 1 0x0B (but 11 0x80 (letter 0x00 0 517 812))))) counted 1,
       153605 ∷ 11269 ∷ [],
     )
-    -- X and Y past the window, under every CTRL1 and in every format, on the way and at the end: nothing is folded
+    -- X and Y past the window, under CTRL1 40 to 4F and in every format, on the way and at the end: nothing is folded
     ∷ (
-      joined (λ k. joined (λ c1. outward 0 c1 (getD outwardly k 0) 3 ++ outward 0 c1 (getD outwardly k 0) 65535) 0x40 64) 0 3,
-      joined (λ k. joined (λ c1. but 1 c1 (outward 0 0x40 (getD outwardly k 0) 3) ++ but 1 c1 (outward 0 0x40 (getD outwardly k 0) 65535)) 0x40 64) 0 3,
+      joined (λ k. joined (λ c1. outward 0 c1 (getD outwardly k 0) 3 ++ outward 0 c1 (getD outwardly k 0) 65535) 0x40 16) 0 3,
+      joined (λ k. joined (λ c1. but 1 c1 (outward 0 0x40 (getD outwardly k 0) 3) ++ but 1 c1 (outward 0 0x40 (getD outwardly k 0) 65535)) 0x40 16) 0 3,
     )
     ∷ (
       joined (λ f. joined (λ k. outward f 0x4B (getD outwardly k 0) 3 ++ outward f 0x4B (getD outwardly k 0) 65535) 0 3) 0 3,
       joined (λ f. joined (λ k. but 0 f (outward 0 0x4B (getD outwardly k 0) 3) ++ but 0 f (outward 0 0x4B (getD outwardly k 0) 65535)) 0 3) 0 3,
+    )
+    -- every DELTAX along X and every DELTAY along Y
+    ∷ (
+      each (λ v. left (stated (but 4 v (any 0x00 0x10)))) 0 256 ++ each (λ v. left (stated (but 5 v (any 0x00 0x12)))) 0 256,
+      each (λ v. v) 1 256 ++ each (λ v. v) 1 256,
     )
     -- both deltas 0, in every direction: one cycle; both 7, in every line type: to (307, 207)
     ∷ (each (λ c. left (stated (but 4 0 (but 5 0 (any 0x00 c))))) 0x10 16, replicate 16 1)
@@ -245,6 +260,11 @@ freeRefusals =
     -- 1 goes before every other number of a write, at each address and for each code, tilted or not
     (joined (λ k. each (λ a. (written (stated (getD flaws k [])) a 0) .number) 0 16) 0 10, replicate 160 1)
     ∷ (each (λ c. (written (stated (but 2 0x04 (but 6 4096 rich))) 0x0 c) .number) 0 256, replicate 256 1)
+    -- X and Y with one bit above the twelfth, and all; h above 63 and v above 255 likewise
+    ∷ (joined (λ k. each (λ i. flaw (but i (2 ^ k) rich)) 6 2) 0 16, replicate 24 0 ++ replicate 8 1)
+    ∷ (flaw (but 6 65535 rich) ∷ flaw (but 7 65535 rich) ∷ [], 1 ∷ 1 ∷ [])
+    ∷ (each (λ h. nth 0 (strikes rich h 0)) 0 256, replicate 64 0 ++ replicate 192 8)
+    ∷ (each (λ k. nth 0 (strikes rich 0 (2 ^ k))) 0 16, replicate 8 0 ++ replicate 8 8)
     -- while a command runs, while a clear waits and while it is in its frame, no code is taken
     ∷ (joined (λ w. each (λ c. (written (stated (doing w rich)) 0x0 c) .number) 0 256) 1 5, replicate 1280 6)
     ∷ []
