@@ -68,6 +68,10 @@ e12 n = 69 ∷ 9 ∷ 49 ∷ 50 ∷ 9 ∷ (48 + n) ∷ 10 ∷ []
 unfoldable pub e12-20 : List ℕ
 e12-20 = 69 ∷ 9 ∷ 49 ∷ 50 ∷ 9 ∷ 50 ∷ 48 ∷ 10 ∷ []
 
+-- R at an address, with its value
+unfoldable pub r12 : ℕ → ℕ → ℕ → List ℕ
+r12 a h l = 82 ∷ 9 ∷ a ∷ 9 ∷ h ∷ l ∷ 10 ∷ []
+
 -- some records in a row
 unfoldable pub after : Card → List Record → Card
 after c [] = c
@@ -76,6 +80,10 @@ after c (r ∷ rs) = after (cardAfter c r) rs
 -- a card that draws the vector of document 01's example; one with a flag set; one whose pen frame is open; one of tilted letters
 unfoldable pub drawing : Card
 drawing = after card (Write 1 3 ∷ Write 5 5 ∷ Write 7 2 ∷ Write 0 0x11 ∷ [])
+
+-- one whose vector is the longest
+unfoldable pub stretched : Card
+stretched = after card (Write 5 255 ∷ Write 0 0x10 ∷ [])
 
 unfoldable pub flagged : Card
 flagged = after card (Write 1 0x40 ∷ Write 0 5 ∷ [])
@@ -114,6 +122,19 @@ played =
     ∷ (answerTo 12 card (Write 4 1) ++ (answerTo 12 card (Read 6) ++ answerTo 12 card (Write 0xC 1)), e12 4 ++ (e12 4 ++ e12 5))
     ∷ (answerTo 12 tilted (Write 0 0x41) ++ (answerTo 12 card (Edge 64 0) ++ answerTo 12 card (Edge 0 256)), e12 7 ++ (e12 8 ++ e12 8))
     ∷ (answerTo 7 card Malformed, 69 ∷ 9 ∷ 55 ∷ 9 ∷ 50 ∷ 48 ∷ 10 ∷ [])
+    -- every address read on the fresh card: STATUS 05, CSIZE 11, the others 00, and 4 at 4, 6, E and F
+    ∷ (
+      joined (λ (a : ℕ). answerTo 12 card (Read a)) 0 16,
+      r12 48 48 53 ++ (r12 49 48 48 ++ (r12 50 48 48 ++ (r12 51 49 49 ++ (e12 4 ++ (r12 53 48 48 ++ (e12 4 ++ (r12 55 48 48
+          ++ (r12 56 48 48 ++ (r12 57 48 48 ++ (r12 65 48 48 ++ (r12 66 48 48 ++ (r12 67 48 48 ++ (r12 68 48 48 ++ (e12 4 ++ e12 4)))))))))))))),
+    )
+    -- every address written there: 5 at C and D, 4 at 4, 6, E and F
+    ∷ (joined (λ (a : ℕ). answerTo 12 card (Write a 7)) 1 15, e12 4 ++ (e12 4 ++ (e12 5 ++ (e12 5 ++ (e12 4 ++ e12 4)))))
+    -- 256 cycles of a vector, by 256 and by more
+    ∷ (
+      answerTo 12 stretched (Cycles 256) ++ (answerTo 12 stretched (Cycles 32768) ++ answerTo 12 stretched (Cycles 65535)),
+      joined (λ (k : ℕ). 84 ∷ 9 ∷ 50 ∷ 53 ∷ 54 ∷ 10 ∷ []) 0 3,
+    )
     ∷ []
 
 -- Cards ---------------------------------------------------------------------------------------------------------------
@@ -139,6 +160,15 @@ cards =
     ∷ (stateAfter card (Write 5 7), expect 0 7 0 0 0 still)
     ∷ (stateAfter card (Write 9 5), expect 0 0 0 5 0 still)
     ∷ (stateAfter card (Write 4 7), expect 0 0 0 0 0 still)
+    ∷ (
+      over (0x1 ∷ 0x2 ∷ 0x3 ∷ 0x5 ∷ 0x7 ∷ 0x8 ∷ 0x9 ∷ 0xA ∷ 0xB ∷ []) (λ (a : ℕ). stateAfter card (Write a 7)),
+      expect 7 0 0 0 0 still ++ ((0 ∷ 7 ∷ 0x11 ∷ replicate 7 0) ++ (still ++ ((0 ∷ 0 ∷ 7 ∷ replicate 7 0) ++ (still
+          ++ (expect 0 7 0 0 0 still ++ (expect 0 0 7 0 0 still ++ (expect 0 0 0 1792 0 still ++ (expect 0 0 0 7 0 still
+          ++ (expect 0 0 0 0 1792 still ++ expect 0 0 0 0 7 still))))))))),
+    )
+    -- 256 cycles and more
+    ∷ (stateAfter stretched (Cycles 255), expect 0 255 0 255 0 (1 ∷ 0x10 ∷ 255 ∷ replicate 5 0))
+    ∷ (stateAfter stretched (Cycles 256) ++ stateAfter stretched (Cycles 32768), expect 0 255 0 255 0 still ++ expect 0 255 0 255 0 still)
     -- a read clears the flags, refused it does not
     ∷ (stateAfter flagged (Read 0), expect 0x40 0 0 0 0 still)
     ∷ (stateAfter flagged (Read 4), expect 0x40 0 0 0 0 (0 ∷ 0 ∷ 0 ∷ 0 ∷ 0 ∷ 0 ∷ 0 ∷ 1 ∷ []))
@@ -206,4 +236,5 @@ rows =
     ∷ (dotLines (lit 16383 0x80 0) 131064 8, 80 ∷ 9 ∷ 53 ∷ 49 ∷ 49 ∷ 9 ∷ 50 ∷ 53 ∷ 53 ∷ 10 ∷ [])
     -- input past 65,536 bytes: only E, 0, 21
     ∷ (panel (replicate 65537 48), 69 ∷ 9 ∷ 48 ∷ 9 ∷ 50 ∷ 49 ∷ 10 ∷ [])
+    ∷ (panel (replicate 65538 10) ++ panel (replicate 131073 10), joined (λ (k : ℕ). 69 ∷ 9 ∷ 48 ∷ 9 ∷ 50 ∷ 49 ∷ 10 ∷ []) 0 2)
     ∷ []

@@ -3,7 +3,7 @@
 -- Assumes nothing.
 use Prim.Native.Nat.{ℕ, _+_, _*_, _/_, _%_}
 use mathlib.Core.List.{List, [], _∷_, _++_}
-use lib.ListN.{replicate}
+use lib.ListN.{getD, replicate}
 use Rattle.basis.specs.Reading.{Reading, each, joined, told}
 use Rattle.panel.specs.declared.parse.Record.{Record}
 use Rattle.panel.specs.declared.parse.Record.the-variants.{Write, Read, Cycles, Blanking, Edge, Malformed}
@@ -69,6 +69,10 @@ hexed f = bad 48 ++ (joined f 0 10 ++ (bad 7 ++ (joined f 10 6 ++ bad 185)))
 unfoldable pub tenned : (ℕ → List ℕ) → List ℕ
 tenned f = bad 48 ++ (joined f 0 10 ++ bad 198)
 
+-- a hex digit
+unfoldable pub hex : ℕ → ℕ
+hex d = getD (48 ∷ 49 ∷ 50 ∷ 51 ∷ 52 ∷ 53 ∷ 54 ∷ 55 ∷ 56 ∷ 57 ∷ 65 ∷ 66 ∷ 67 ∷ 68 ∷ 69 ∷ 70 ∷ []) d 0
+
 unfoldable pub fieldReadings : List Reading
 fieldReadings =
     -- W: an address of one hex digit, a value of one or two
@@ -78,6 +82,8 @@ fieldReadings =
     ∷ (joined (λ (b : ℕ). two 87 (48 ∷ []) (50 ∷ b ∷ [])) 0 256, hexed (λ (d : ℕ). 1 ∷ 0 ∷ (32 + d) ∷ []))
     ∷ (joined (λ (b : ℕ). two 87 (b ∷ 50 ∷ []) (49 ∷ []) ++ two 87 (48 ∷ b ∷ []) (49 ∷ [])) 0 256, bad 512)
     ∷ (joined (λ (b : ℕ). two 87 (49 ∷ []) (b ∷ 49 ∷ 50 ∷ []) ++ two 87 (49 ∷ []) (48 ∷ 49 ∷ b ∷ [])) 0 256, bad 512)
+    -- every value in two digits
+    ∷ (joined (λ (v : ℕ). two 87 (51 ∷ []) (hex (v / 16) ∷ hex (v % 16) ∷ [])) 0 256, joined (λ (v : ℕ). 1 ∷ 3 ∷ v ∷ []) 0 256)
     -- R: an address of one hex digit
     ∷ (joined (λ (b : ℕ). one 82 (b ∷ [])) 0 256, hexed (λ (d : ℕ). 2 ∷ d ∷ 0 ∷ []))
     ∷ (joined (λ (b : ℕ). one 82 (48 ∷ b ∷ []) ++ one 82 (b ∷ 49 ∷ [])) 0 256, bad 512)
