@@ -2,6 +2,7 @@
 // Proved: exactly the dots of the closed forms, one cycle after the other. It knows no register.
 // Assumes nothing.
 mod column;
+mod inside;
 pub mod letters;
 pub mod strokes;
 pub mod tip;

@@ -7,6 +7,8 @@ ghost use Rattle.motion.specs.Working.Strokes.{Lengths};
 ghost use Rattle.drawing.specs.Figure.{Figure};
 ghost use Rattle.drawing.specs.Run.{Ran};
 ghost use Rattle.drawing.specs.Working.Cycle.{Granted};
+use crate::inside::draw_within;
+use crate::inside::is_within;
 use crate::tip::Run;
 use crate::tip::Tip;
 use crate::tip::touch;
@@ -17,8 +19,8 @@ use motion::vector::Line;
 use motion::vector::next_dot;
 use motion::vector::stroke_at;
 
-// The cycles of a run, by the line type of CTRL2. After the last dot the place stays on it.
-pub fn draw_vector(pic: &mut [u8], t: Tip, ctrl2: u8, l: Line, run: Run) -> Spot
+// The cycles of a run, by the line type of CTRL2, each dot clipped by itself. After the last dot the place stays on it.
+fn draw_across(pic: &mut [u8], t: Tip, ctrl2: u8, l: Line, run: Run) -> Spot
     requires { ⌜ Screen (t .window) (length (now pic)) ⌝ }
     requires { ⌜ Lengths l × Granted (Figure.Stroke ctrl2 l) run ⌝ }
     ensures { λ r. ⌜ ((glyph : List ℕ) → Ran t (Figure.Stroke ctrl2 l) glyph run r (now (pic .entry)) (now (pic .exit))) ⌝ }
@@ -33,4 +35,18 @@ pub fn draw_vector(pic: &mut [u8], t: Tip, ctrl2: u8, l: Line, run: Run) -> Spot
         k += 1;
     }
     Spot { x: s.x, y: s.y }
+}
+
+// The same: where more than one cycle is granted and the vector lies inside the window, by the numbers of its dots.
+pub fn draw_vector(pic: &mut [u8], t: Tip, ctrl2: u8, l: Line, run: Run) -> Spot
+    requires { ⌜ Screen (t .window) (length (now pic)) ⌝ }
+    requires { ⌜ Lengths l × Granted (Figure.Stroke ctrl2 l) run ⌝ }
+    ensures { λ r. ⌜ ((glyph : List ℕ) → Ran t (Figure.Stroke ctrl2 l) glyph run r (now (pic .entry)) (now (pic .exit))) ⌝ }
+{
+    if t.down & (run.count > 1) {
+        if is_within(t.window, l, run.at) {
+            return draw_within(pic, t, ctrl2, l, run);
+        }
+    }
+    draw_across(pic, t, ctrl2, l, run)
 }

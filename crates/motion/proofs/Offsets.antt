@@ -6,7 +6,7 @@ use mathlib.Core.Logic.{⊎-elim}
 use Prim.Native.Nat.{ℕ, zero, suc, _+_, _-_, _*_, _/_, _%_, _<_, _≤_}
 use native.Mathlib.Nat.{add-mul, mul-add, mul-sub, zero-mul, mul-le-mul-left, mul-le-mul-right, eq-zero-or-pos}
 use native.Mathlib.Nat.{mod-lt, mod-add-mod, div-add-mod', mul-add-div-right, div-zero, div-eq-of-lt, div-eq-of-lt-le}
-use native.Mathlib.Nat.{div-mul-le-self, lt-div-mul-add, div-lt-iff-lt-mul}
+use native.Mathlib.Nat.{div-mul-le-self, le-div-iff-mul-le, lt-div-mul-add, div-lt-iff-lt-mul}
 use native.Mathlib.Omega.{arith}
 use lib.Arith.{digits-div, digits-mod}
 use Rattle.motion.specs.Vector.{offset, dist}
@@ -94,3 +94,12 @@ pub offset-most : (M m i : ℕ) → i ≤ M → offset M m i ≤ m
 unfolding offset
 offset-most zero m i h = omega (arith, div-zero (dividend 0 m i))
 offset-most (suc M) m i h = quotient-most (dividend (suc M) m i) (2 * suc M) m (omega arith) (omega (arith, mul-le-mul-right m h))
+
+-- a later dot has no less
+pub offset-grows : (M m i j : ℕ) → i ≤ j → offset M m i ≤ offset M m j
+unfolding offset
+offset-grows zero m i j h = omega (arith, div-zero (dividend 0 m i))
+offset-grows (suc M) m i j h =
+    let less = div-mul-le-self (dividend (suc M) m i) (2 * suc M) in
+    le-div-iff-mul-le {k = 2 * suc M} {x = offset (suc M) m i} {y = dividend (suc M) m j} (omega arith) .1
+    (omega (arith, less, mul-le-mul-right m h))

@@ -3,7 +3,7 @@
 -- Assumes nothing.
 use mathlib.Core.Path.{_≡_, refl, sym, ap, _∙_}
 use mathlib.Core.Bool.{Bool, true, false, cond, _||_}
-use Prim.Native.Nat.{ℕ, _+_, _*_, _/_, _%_, _<_, _≤_, max, min}
+use Prim.Native.Nat.{ℕ, _+_, _-_, _*_, _/_, _%_, _<_, _≤_, max, min}
 use native.Mathlib.Nat.{mul-le-mul, le-of-lt, min-eq-left, min-eq-right, max-eq-left, max-eq-right}
 use native.Mathlib.Omega.{arith}
 use lib.Dec.{eqb, ltb}
@@ -15,7 +15,7 @@ use Rattle.motion.specs.Position.{ahead, behind, signed}
 use Rattle.motion.specs.Vector.{givenX, givenY, lengthX, lengthY, minusX, minusY, lineOf, vectorCycles, offset, dist, alongX, alongY, vectorX, vectorY}
 use Rattle.motion.specs.Working.Strokes.{Lengths, errorOf, OnDot}
 use Rattle.motion.proofs.Positions.{ahead-behind, signed-more, signed-range, signed-zero}
-use Rattle.motion.proofs.Offsets.{carry, error-next, offset-next, near, offset-start, offset-end, offset-most}
+use Rattle.motion.proofs.Offsets.{carry, error-next, offset-next, near, offset-start, offset-end, offset-most, offset-grows}
 
 -- one axis takes the offset, the other one dot a cycle: what holds of both arms holds of the arm taken
 either : (P : ℕ → Type 0) (b : Bool) {x y : ℕ} → P x → P y → P (cond b x y)
@@ -31,6 +31,15 @@ cond-add false x y u v = refl
 cond-le : (b : Bool) {x y u v : ℕ} → x ≤ u → y ≤ v → cond b x y ≤ cond b u v
 cond-le true h k = h
 cond-le false h k = k
+
+-- from a places along, the place b along is b less a away
+from : (back : Bool) (p a b : ℕ) → p < 4096 → a ≤ b → b ≤ 4096
+    → ahead (behind p (signed back a)) (signed back b) ≡ ahead p (signed back (b - a))
+from back p a b hp h k =
+    let sum : a + (b - a) ≡ b = omega arith in
+    sym (ap (λ (n : ℕ). ahead (behind p (signed back a)) (signed back n)) sum)
+    ∙ sym (signed-more back (behind p (signed back a)) a (b - a) (omega arith))
+    ∙ ap (λ (q : ℕ). ahead q (signed back (b - a))) (ahead-behind p (signed back a) hp)
 
 module _ (l : Line) where
   -- dot 0 is the start
@@ -55,6 +64,21 @@ module _ (l : Line) where
       let o = offset (l .long) (l .short) i in
       let n = carry (l .long) (l .short) i in
       rw (offset-next (l .long) (l .short) i (omega arith)) (cond-add (l .steep) o i n 1, cond-add (l .steep) i o 1 n)
+
+  -- no dot is further along an axis than the line's length there
+  pub along-span : (i : ℕ) → i ≤ l .long
+      → (alongX l i ≤ cond (l .steep) (l .short) (l .long)) × (alongY l i ≤ cond (l .steep) (l .long) (l .short))
+  unfolding alongX alongY
+  along-span i h =
+      let o = offset-most (l .long) (l .short) i h in
+      (cond-le (l .steep) o h, cond-le (l .steep) h o)
+
+  -- and a later dot is no less far along it
+  pub along-grows : (i j : ℕ) → i ≤ j → (alongX l i ≤ alongX l j) × (alongY l i ≤ alongY l j)
+  unfolding alongX alongY
+  along-grows i j h =
+      let o = offset-grows (l .long) (l .short) i j h in
+      (cond-le (l .steep) o h, cond-le (l .steep) h o)
 
   module _ (g : Lengths l) where
     -- the product in the error term is small
@@ -87,6 +111,18 @@ module _ (l : Line) where
         let m = along-most (i + 1) (omega arith) in (
           rw (a .0) (sym (signed-more (l .left) x (alongX l i) (cond (l .steep) n 1) (omega arith))),
           rw (a .1) (sym (signed-more (l .down) y (alongY l i) (cond (l .steep) 1 n) (omega arith))),
+        )
+
+    -- where dot j is, seen from dot i before it
+    pub vector-from : (i j : ℕ) → i ≤ j → j ≤ l .long → (x y : ℕ) → x < 4096 → y < 4096
+        → (ahead (behind x (vectorX l i)) (vectorX l j) ≡ ahead x (signed (l .left) (alongX l j - alongX l i)))
+        × (ahead (behind y (vectorY l i)) (vectorY l j) ≡ ahead y (signed (l .down) (alongY l j - alongY l i)))
+    unfolding vectorX vectorY
+    vector-from i j h k x y hx hy =
+        let grows = along-grows i j h in
+        let most = along-most j k in (
+          from (l .left) x (alongX l i) (alongX l j) hx (grows .0) (omega (arith, most .0)),
+          from (l .down) y (alongY l i) (alongY l j) hy (grows .1) (omega (arith, most .1)),
         )
 
   -- a stroke that is set on dot i

@@ -28,9 +28,9 @@ pub struct Stroke {
 }
 
 // The error term one dot further, and by how much the shorter axis steps.
-struct Hop {
-    step: u16,
-    error: u16,
+pub struct Hop {
+    pub step: u16,
+    pub error: u16,
 }
 
 // The length that a code gives an axis: the axis' own delta, the larger of both, or the code's own two bits.
@@ -106,7 +106,7 @@ pub fn line_of(code: u8, dx: u8, dy: u8) -> Line
 }
 
 // The error term of dot i: one division, once for a run of dots.
-fn error_at(l: Line, i: u16) -> u16
+pub fn error_at(l: Line, i: u16) -> u16
     requires { ⌜ Lengths l × (i ≤ l .long) ⌝ }
     ensures { λ r. ⌜ r ≡ errorOf (l .long) (l .short) i ⌝ }
 {
@@ -130,7 +130,7 @@ pub fn stroke_at(l: Line, x: u16, y: u16, i: u16) -> Stroke
     }
 }
 
-fn hopped(error: u16, short: u16, long: u16) -> Hop
+pub fn hopped(error: u16, short: u16, long: u16) -> Hop
     requires { ⌜ (error < 2 * long) × (short ≤ long) × (long ≤ 255) ⌝ }
     ensures { λ r. ⌜ (r .step ≡ (error + 2 * short) / (2 * long)) × (r .error ≡ (error + 2 * short) % (2 * long)) ⌝ }
 {

@@ -23,7 +23,7 @@ pub fn with_bit(v: u8, k: u8, lit: bool) -> u8
 }
 
 // Lights or darkens dot number d.
-pub(crate) fn set_dot(pic: &mut [u8], d: usize, lit: bool)
+pub fn set_dot(pic: &mut [u8], d: usize, lit: bool)
     requires { ⌜ d < 8 * length (now pic) ⌝ }
     ensures { λ _. ⌜ now (pic .exit) ≡ setDot lit d (now (pic .entry)) ⌝ }
 {
