@@ -1,4 +1,4 @@
-// A run of a vector that lies inside the window: it is asked once, and then the number of the dot steps in place of X and Y.
+// A run of a vector that lies inside the window: that is asked once, and then the number of the dot steps in place of X and Y.
 ghost use mathlib.Core.Path.{_≡_};
 ghost use mathlib.Core.Bool.{true, cond};
 ghost use mathlib.Core.List.{List, [], _∷_};
@@ -13,7 +13,7 @@ ghost use Rattle.motion.specs.Working.Strokes.{Lengths, errorOf};
 ghost use Rattle.drawing.specs.Figure.{Figure};
 ghost use Rattle.drawing.specs.Run.{Ran};
 ghost use Rattle.drawing.specs.Working.Cycle.{Granted};
-ghost use Rattle.drawing.specs.Working.Inside.{Along, Within, stride, onward, Strode, Shown, OnTrace};
+ghost use Rattle.drawing.specs.Working.Inside.{Along, Within, stride, Strode, Shown, OnTrace};
 use crate::tip::Run;
 use crate::tip::Tip;
 use motion::line_type::is_on;
@@ -32,7 +32,7 @@ struct Trace {
     error: u16,
 }
 
-// What one dot adds to the number of a dot, modulo 2^20: along the longer axis, and along both.
+// What one dot along the longer axis adds to the number of a dot, and one along both axes.
 struct Strides {
     straight: usize,
     diagonal: usize,
@@ -66,6 +66,7 @@ pub(crate) fn is_within(w: Window, l: Line, at: Spot) -> bool
     is_along(l.left, at.x, l.long, w.width) & is_along(l.down, at.y, l.short, w.height)
 }
 
+// What n dots on or back add to the number of a dot, modulo 2^20, of which no picture has as many.
 fn stride(back: bool, n: usize) -> usize
     requires { ⌜ n ≤ 4096 ⌝ }
     ensures { λ r. ⌜ r ≡ stride back n ⌝ }
@@ -73,6 +74,7 @@ fn stride(back: bool, n: usize) -> usize
     if back { 1048576 - n } else { n }
 }
 
+// Up a line is the width further.
 fn strides_of(l: Line, width: usize) -> Strides
     requires { ⌜ width ≤ 4096 ⌝ }
     ensures { λ r. ⌜ Strode width l r ⌝ }

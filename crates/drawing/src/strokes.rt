@@ -37,7 +37,7 @@ fn draw_across(pic: &mut [u8], t: Tip, ctrl2: u8, l: Line, run: Run) -> Spot
     Spot { x: s.x, y: s.y }
 }
 
-// The same: where more than one cycle is granted and the vector lies inside the window, by the numbers of its dots.
+// The same. A vector inside the window goes by the numbers of its dots; for a single cycle the question costs more than it saves.
 pub fn draw_vector(pic: &mut [u8], t: Tip, ctrl2: u8, l: Line, run: Run) -> Spot
     requires { ⌜ Screen (t .window) (length (now pic)) ⌝ }
     requires { ⌜ Lengths l × Granted (Figure.Stroke ctrl2 l) run ⌝ }
