@@ -1,6 +1,6 @@
 -- Readings of figures: their cycles, the way to each, where they end, which cycles write.
 -- Assumes nothing.
-use Prim.Native.Nat.{ℕ, _/_, _%_}
+use Prim.Native.Nat.{ℕ, _-_, _/_, _%_}
 use mathlib.Core.Bool.{Bool, true, false}
 use mathlib.Core.List.{List, [], _∷_, _++_}
 use lib.Dec.{eqb}
@@ -52,6 +52,9 @@ ways =
     ∷ (pairs (way (cells true 1 1 2 3)) 6, 4096 ∷ 0 ∷ 4095 ∷ 0 ∷ 4094 ∷ 0 ∷ 4096 ∷ 1 ∷ 4095 ∷ 1 ∷ 4094 ∷ 1 ∷ [])
     ∷ (pair (way (cells false 16 16 96 128) 5000) ++ pair (way (cells false 16 16 96 128) 12287), 39 ∷ 8 ∷ 95 ∷ 127 ∷ [])
     ∷ (pair (way (cells true 16 16 96 128) 5000) ++ pair (way (cells true 16 16 96 128) 12287), 4088 ∷ 39 ∷ 3969 ∷ 95 ∷ [])
+    -- all 256 dots of the longest vectors: down along Y, and on the slant to (−,+)
+    ∷ (pairs (way (stroke 0 255 0 true false true)) 256, joined (λ i. 0 ∷ (4096 - i) ∷ []) 0 256)
+    ∷ (pairs (way (stroke 2 255 255 false true false)) 256, joined (λ i. (4096 - i) ∷ i ∷ []) 0 256)
     ∷ (pairs (way Pause) 3 ++ pairs (way Nothing) 3, replicate 12 0)
     -- a vector ends on its last dot
     ∷ (pair (endWay (stroke 0 5 2 false false false)), 5 ∷ 2 ∷ [])
@@ -62,6 +65,9 @@ ways =
     -- a character ends past its columns, Y restored; turned, X restored
     ∷ (pair (endWay (cells false 2 3 12 24)) ++ pair (endWay (cells true 2 3 12 24)), 12 ∷ 0 ∷ 0 ∷ 12 ∷ [])
     ∷ (pair (endWay (cells false 3 2 12 8)) ++ pair (endWay (cells true 3 2 12 8)), 12 ∷ 0 ∷ 0 ∷ 12 ∷ [])
+    -- the longest vectors and the largest character
+    ∷ (pair (endWay (stroke 1 255 255 false true false)) ++ pair (endWay (stroke 0 200 100 true false true)), 3841 ∷ 255 ∷ 100 ∷ 3896 ∷ [])
+    ∷ (pair (endWay (cells false 16 16 96 128)) ++ pair (endWay (cells true 16 16 96 128)), 96 ∷ 0 ∷ 0 ∷ 96 ∷ [])
     ∷ (pair (endWay Pause) ++ pair (endWay Nothing), replicate 4 0)
     ∷ []
 
@@ -102,6 +108,12 @@ writing =
     ∷ (wrote (stroke 2 200 3 false true true) [] 32, again 4 (1 ∷ 1 ∷ 1 ∷ 1 ∷ 0 ∷ 0 ∷ 0 ∷ 0 ∷ []))
     ∷ (wrote (stroke 3 200 3 true false true) glyph 32, again 2 (replicate 10 1 ++ (0 ∷ 0 ∷ 1 ∷ 1 ∷ 0 ∷ 0 ∷ [])))
     ∷ (wrote (stroke 14 200 3 true false true) glyph 16, again 2 (1 ∷ 1 ∷ 1 ∷ 1 ∷ 0 ∷ 0 ∷ 0 ∷ 0 ∷ []))
+    -- each type to the last of 256 dots
+    ∷ (
+      joined (λ t. wrote (stroke t 255 7 true false true) [] 256) 0 4,
+      replicate 256 1 ++ again 64 (1 ∷ 1 ∷ 0 ∷ 0 ∷ []) ++ again 32 (1 ∷ 1 ∷ 1 ∷ 1 ∷ 0 ∷ 0 ∷ 0 ∷ 0 ∷ [])
+          ++ again 16 (replicate 10 1 ++ (0 ∷ 0 ∷ 1 ∷ 1 ∷ 0 ∷ 0 ∷ [])),
+    )
     -- a character where its glyph has the dot, the sixth column blank: P 2 and Q 1, P 1 and Q 2, turned too
     ∷ (
       wrote (cells false 2 1 12 8) glyph 96,

@@ -54,6 +54,28 @@ standing =
     ∷ (pairs (restOf Pause (spot 7 9)) 3 ++ pairs (restOf Nothing (spot 7 9)) 3, joined (λ k. 7 ∷ 9 ∷ []) 0 6)
     ∷ []
 
+-- the largest character, P and Q 16, and the same turned, from (300, 200): cycles 5,000 and 12,287, and past the last
+unfoldable pub large : Bool → Figure
+large turn = cells turn 16 16 96 128
+
+unfoldable pub standingLarge : List Reading
+standingLarge =
+    (pair (placeOf (large false) (spot 300 200) 5000) ++ pair (placeOf (large false) (spot 300 200) 12287), 339 ∷ 208 ∷ 395 ∷ 327 ∷ [])
+    ∷ (pair (placeOf (large true) (spot 300 200) 5000) ++ pair (placeOf (large true) (spot 300 200) 12287), 292 ∷ 239 ∷ 173 ∷ 295 ∷ [])
+    ∷ (pair (startOf (large false) 5000 (spot 339 208)) ++ pair (startOf (large false) 12287 (spot 395 327)), 300 ∷ 200 ∷ 300 ∷ 200 ∷ [])
+    ∷ (pair (startOf (large true) 5000 (spot 292 239)) ++ pair (startOf (large true) 12287 (spot 173 295)), 300 ∷ 200 ∷ 300 ∷ 200 ∷ [])
+    ∷ (
+      pair (restOf (large false) (spot 300 200) 5000) ++ pair (restOf (large false) (spot 300 200) 12287)
+          ++ pair (restOf (large false) (spot 300 200) 12288) ++ pair (restOf (large false) (spot 300 200) 65535),
+      339 ∷ 208 ∷ 395 ∷ 327 ∷ 396 ∷ 200 ∷ 396 ∷ 200 ∷ [],
+    )
+    ∷ (
+      pair (restOf (large true) (spot 300 200) 5000) ++ pair (restOf (large true) (spot 300 200) 12287)
+          ++ pair (restOf (large true) (spot 300 200) 12288) ++ pair (restOf (large true) (spot 300 200) 65535),
+      292 ∷ 239 ∷ 173 ∷ 295 ∷ 300 ∷ 296 ∷ 300 ∷ 296 ∷ [],
+    )
+    ∷ []
+
 -- a tip over the window: down or up, lighting or darkening, on a cyclic screen or not
 unfoldable pub tip : Bool → Bool → Bool → Tip
 tip down lit cyclic = record { window = record { width = 16; height = 8; cyclic = cyclic }; down = down; lit = lit }
@@ -116,5 +138,16 @@ drawings =
     ∷ (pair (restOf (stroke 1 3 0 false false false) (spot 7 9) 4), 10 ∷ 9 ∷ [])
     -- all 300 dots of a run
     ∷ (dotsFrom cyclicPen (stroke 0 299 0 false false false) glyph (spot 0 0) 0 300, joined (λ i. (i % 16) ∷ []) 0 300)
+    -- all 5,000 cycles of a run that passes the window twice
+    ∷ (
+      dotsFrom pen (stroke 0 5000 0 false false false) glyph (spot 3692 0) 0 5000,
+      joined (λ i. i ∷ []) 0 16 ++ joined (λ i. i ∷ []) 0 16,
+    )
+    -- cycles 4,096, 4,128 and 8,208 of the largest character: columns 2, 2 and 4, rows 0, 2 and 1
+    ∷ (
+      dotOf cyclicPen (large false) glyph (spot 0 0) 4096 ++ dotOf cyclicPen (large false) glyph (spot 5 0) 4128
+          ++ dotOf cyclicPen (large false) glyph (spot 0 3) 8208,
+      5 ∷ 48 ∷ [],
+    )
     ∷ (dotOf pen flat glyph (spot 3 1) 2 ++ dotOf pen flat glyph (spot 3 7) 2 ++ dotOf pen Pause glyph (spot 3 1) 0, 37 ∷ [])
     ∷ []

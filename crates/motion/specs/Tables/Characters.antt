@@ -1,6 +1,6 @@
 -- Readings of how a character steps, and of its glyph.
 -- Assumes nothing.
-use Prim.Native.Nat.{ℕ, _-_, _*_}
+use Prim.Native.Nat.{ℕ, _+_, _-_, _*_}
 use mathlib.Core.Bool.{Bool, true, false}
 use mathlib.Core.List.{List, [], _∷_, _++_, map}
 use lib.ListN.{replicate}
@@ -110,6 +110,15 @@ cells =
     ∷ (cycles (rowOf narrow) narrow, again 6 (stairs 16 8))
     ∷ (cycles (columnOf broad) broad, stairs 128 6)
     ∷ (cycles (rowOf broad) broad, again 96 (upTo 8))
+    -- every P and every Q: where each glyph column begins and ends, and each glyph row
+    ∷ (
+      joined (λ p. joined (λ c. columnOf (body p 1 (6 * p) 8) (8 * p * c) ∷ columnOf (body p 1 (6 * p) 8) (8 * (p * c + p - 1)) ∷ []) 0 6) 1 16,
+      again 16 (stairs 2 6),
+    )
+    ∷ (
+      joined (λ q. joined (λ r. rowOf (body 1 q 6 (8 * q)) (q * r) ∷ rowOf (body 1 q 6 (8 * q)) (q * r + q - 1) ∷ []) 0 8) 1 16,
+      again 16 (stairs 2 8),
+    )
     -- by the body's own numbers
     ∷ (bodyCycles (body 2 3 5 7) ∷ uOf (body 2 3 5 7) 34 ∷ vOf (body 2 3 5 7) 34 ∷ [], 35 ∷ 4 ∷ 6 ∷ [])
     ∷ (columnOf (body 2 3 5 7) 34 ∷ rowOf (body 2 3 5 7) 34 ∷ rowOf (body 2 3 5 7) 30 ∷ [], 2 ∷ 2 ∷ 0 ∷ [])
@@ -128,6 +137,9 @@ cellWays =
     ∷ (cycles (bodyY true letter) letter, stairs 24 12)
     ∷ (bodyEndX false letter ∷ bodyEndY false letter ∷ bodyEndX true letter ∷ bodyEndY true letter ∷ [], 12 ∷ 0 ∷ 0 ∷ 12 ∷ [])
     ∷ (bodyEndX false box ∷ bodyEndY false box ∷ bodyEndX true box ∷ bodyEndY true box ∷ [], 12 ∷ 0 ∷ 0 ∷ 12 ∷ [])
+    -- of one as high as it is wide: a block with P and Q 1
+    ∷ (cycles (bodyX false (body 1 1 4 4)) (body 1 1 4 4) ++ cycles (bodyY false (body 1 1 4 4)) (body 1 1 4 4), stairs 4 4 ++ again 4 (upTo 4))
+    ∷ (cycles (bodyX true (body 1 1 4 4)) (body 1 1 4 4) ++ cycles (bodyY true (body 1 1 4 4)) (body 1 1 4 4), again 4 (downTo 4) ++ stairs 4 4)
     -- the same of a body that is wider than it is high, and of the largest
     ∷ (cycles (bodyX false box) box, stairs 8 12)
     ∷ (cycles (bodyY false box) box, again 12 (upTo 8))

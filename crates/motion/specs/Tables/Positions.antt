@@ -91,7 +91,11 @@ lineTypes =
     ∷ (dots 256 1, again 64 (1 ∷ 1 ∷ 0 ∷ 0 ∷ []))
     ∷ (dots 256 2, again 32 (1 ∷ 1 ∷ 1 ∷ 1 ∷ 0 ∷ 0 ∷ 0 ∷ 0 ∷ []))
     ∷ (dots 256 3, again 16 dashDot)
-    -- CTRL2 bits 0 and 1 alone say which: bits 2 and 3 change nothing
+    -- CTRL2 bits 0 and 1 alone say which: bits 2 and 3 change nothing, to the last dot
+    ∷ (
+      joined (dots 256) 4 12,
+      again 3 (replicate 256 1 ++ (again 64 (1 ∷ 1 ∷ 0 ∷ 0 ∷ []) ++ (again 32 (1 ∷ 1 ∷ 1 ∷ 1 ∷ 0 ∷ 0 ∷ 0 ∷ 0 ∷ []) ++ again 16 dashDot))),
+    )
     ∷ (
       joined (dots 32) 0 16,
       again 4 (replicate 32 1 ++ (again 8 (1 ∷ 1 ∷ 0 ∷ 0 ∷ []) ++ (again 4 (1 ∷ 1 ∷ 1 ∷ 1 ∷ 0 ∷ 0 ∷ 0 ∷ 0 ∷ []) ++ again 2 dashDot))),

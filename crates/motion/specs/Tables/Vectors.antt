@@ -127,6 +127,7 @@ vectorCodes =
     ++ given 2 5 5
     ++ given 0 200 200
     ++ given 255 128 255
+    ++ given 7 7 7
     ++ lengths 5 2 5
     ++ lengths 2 5 5
     ++ lengths 0 200 200

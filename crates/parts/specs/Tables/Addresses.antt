@@ -93,6 +93,10 @@ addresses =
     ∷ (outputs Ef9366 511 255, 127 ∷ 127 ∷ 15 ∷ [])
     ∷ (outputs FmatHigh 511 511, 127 ∷ 127 ∷ 15 ∷ [])
     ∷ (outputs FmatLow 255 255, 127 ∷ 127 ∷ 7 ∷ [])
+    -- the other two corners of each window
+    ∷ (outputs Ef9366 0 255 ++ outputs Ef9366 511 0, 64 ∷ 127 ∷ 8 ∷ 63 ∷ 0 ∷ 15 ∷ [])
+    ∷ (outputs FmatHigh 0 511 ++ outputs FmatHigh 511 0, 64 ∷ 127 ∷ 8 ∷ 63 ∷ 0 ∷ 7 ∷ [])
+    ∷ (outputs FmatLow 0 255 ++ outputs FmatLow 255 0, 64 ∷ 127 ∷ 14 ∷ 63 ∷ 0 ∷ 7 ∷ [])
     ∷ (
       singly Ef9366,
       (0 ∷ 0 ∷ 0 ∷ 32 ∷ 16 ∷ 8 ∷ 4 ∷ 2 ∷ 1 ∷ 0 ∷ 0 ∷ 0 ∷ [])

@@ -94,6 +94,10 @@ dots =
     ∷ (gathered (λ i. i ∷ []) 9 0, [])
     ∷ (gathered (λ i. i ∷ []) 9 1, 9 ∷ [])
     ∷ (gathered (λ i. i ∷ []) 250 10 ++ gathered (λ i. i ∷ []) 4090 10, from 250 10 ++ from 4090 10)
+    -- as many steps as the largest character has cycles; as many dots painted, and looked through
+    ∷ (gathered (λ i. i ∷ []) 0 12288, from 0 12288)
+    ∷ (paint true (0 ∷ replicate 12287 1) (0 ∷ []) ++ paint false (0 ∷ replicate 12287 1) (255 ∷ []), 3 ∷ 252 ∷ [])
+    ∷ (map told (has 7 (7 ∷ replicate 12287 1) ∷ has 7 (replicate 12287 1 ++ (7 ∷ [])) ∷ has 7 (replicate 12288 1) ∷ []), 1 ∷ 1 ∷ 0 ∷ [])
     -- a whole picture lit, dark
     ∷ (solid true ∷ solid false ∷ [], 255 ∷ 0 ∷ [])
     ∷ (whole true (1 ∷ 2 ∷ 3 ∷ []), 255 ∷ 255 ∷ 255 ∷ [])

@@ -1,6 +1,6 @@
 -- Digits and numbers as text, read and written: 48 to 57 are 0 to 9, 65 to 70 are A to F.
 -- Assumes nothing.
-use Prim.Native.Nat.{ℕ, suc, _+_, _-_, _*_}
+use Prim.Native.Nat.{ℕ, suc, _+_, _-_, _*_, _/_, _%_}
 use mathlib.Core.List.{List, [], _∷_, _++_}
 use lib.ListN.{replicate}
 use Rattle.basis.specs.Reading.{Reading, each, joined, told}
@@ -114,6 +114,9 @@ decimals =
       decimal 10001 ++ (decimal 20300 ++ (decimal 40040 ++ decimal 65500)),
       (49 ∷ 48 ∷ 48 ∷ 48 ∷ 49 ∷ []) ++ ((50 ∷ 48 ∷ 51 ∷ 48 ∷ 48 ∷ []) ++ ((52 ∷ 48 ∷ 48 ∷ 52 ∷ 48 ∷ []) ++ (54 ∷ 53 ∷ 53 ∷ 48 ∷ 48 ∷ []))),
     )
+    -- all from 200 to 511; 65,536, the most lines that a log has; 12,288
+    ∷ (joined decimal 200 312, joined (λ (n : ℕ). (48 + n / 100) ∷ (48 + n / 10 % 10) ∷ (48 + n % 10) ∷ []) 200 312)
+    ∷ (decimal 65536 ++ decimal 12288, 54 ∷ 53 ∷ 53 ∷ 51 ∷ 54 ∷ 49 ∷ 50 ∷ 50 ∷ 56 ∷ 56 ∷ [])
     -- the last k digits at most: of 567 none, 7, 67, 567, 567; of 5 none, 5, 5; of 500 none, 0, 00, 500
     ∷ (joined (λ (k : ℕ). decimalBy k 567) 0 5, 55 ∷ 54 ∷ 55 ∷ 53 ∷ 54 ∷ 55 ∷ 53 ∷ 54 ∷ 55 ∷ [])
     ∷ (joined (λ (k : ℕ). decimalBy k 5) 0 3, 53 ∷ 53 ∷ [])

@@ -2,7 +2,7 @@
 -- Assumes nothing.
 use Prim.Native.Nat.{ℕ, suc, _-_}
 use mathlib.Core.List.{List, [], _∷_, _++_}
-use lib.ListN.{length}
+use lib.ListN.{length, replicate}
 use Rattle.basis.specs.Reading.{Reading, joined}
 use Rattle.text.specs.Pieces.{tab, lineFeed, attached, linesOf, fieldsOf}
 
@@ -58,6 +58,9 @@ parted =
       joined (λ (b : ℕ). ofFields (65 ∷ b ∷ 66 ∷ [])) 0 256,
       butFor 9 (2 ∷ 1 ∷ 65 ∷ 1 ∷ 66 ∷ []) (λ (b : ℕ). 1 ∷ 3 ∷ 65 ∷ b ∷ 66 ∷ []),
     )
+    -- a line and a field of 300 bytes; 300 line feeds and 300 tabs
+    ∷ (ofLines (replicate 300 65) ++ ofFields (replicate 300 65), 1 ∷ 300 ∷ (replicate 300 65 ++ (1 ∷ 300 ∷ replicate 300 65)))
+    ∷ (ofLines (replicate 300 10) ++ ofFields (replicate 300 9), 300 ∷ (replicate 300 0 ++ (301 ∷ replicate 301 0)))
     -- a byte put before the first piece; before none, it is one
     ∷ (piecesRow (attached 7 []), 1 ∷ 1 ∷ 7 ∷ [])
     ∷ (piecesRow (attached 7 ([] ∷ (8 ∷ []) ∷ [])), 2 ∷ 1 ∷ 7 ∷ 1 ∷ 8 ∷ [])
