@@ -21,6 +21,13 @@ pub grant-reads : Grants (bytes 0 0 0 3 0 0x11 5 0 0 0 0x10 8 0) 3 (replicate 16
 unfolding computed
 grant-reads = record { answers = refl; memories = refl }
 
+-- no cycle: nothing is used, nothing changes
+pub grant-none : Grants (bytes 0 0 0 3 0 0x11 5 0 0 0 0x10 8 0) 0 (replicate 16384 0) (replicate 480 0)
+    (record { number = 0; value = 0; state = bytes 0 0 0 3 0 0x11 5 0 0 0 0x10 8 0 })
+    (replicate 16384 0)
+unfolding computed
+grant-none = record { answers = refl; memories = refl }
+
 -- 32,768 cycles: all six, and the end
 pub grant-ends : Grants (bytes 0 0 0 3 0 0x11 5 0 0 0 0x10 8 0) 32768 (replicate 16384 0) (replicate 480 0)
     (record { number = 0; value = 6; state = bytes 5 0 0 3 0 0x11 5 0 0 0 0 0 0 })
@@ -40,6 +47,13 @@ pub grant-unnamed : Grants (bytes 0 0 0 3 0 0x11 5 0 0 0 0x10 15 0) 3 (replicate
     (replicate 8192 0)
 unfolding computed
 grant-unnamed = record { answers = refl; memories = refl }
+
+-- a pen sequence that has no name
+pub grant-unnamed-pen : Grants (bytes 0 0 0 3 0 0x11 5 0 0 0 0x10 8 12) 3 (replicate 16384 0) (replicate 480 0)
+    (record { number = 1; value = 0; state = bytes 0 0 0 3 0 0x11 5 0 0 0 0x10 8 12 })
+    (replicate 16384 0)
+unfolding computed
+grant-unnamed-pen = record { answers = refl; memories = refl }
 
 -- the VB rise that ends the frame of 0C, with the pen; the present level; a wrong picture; bytes that name nothing
 pub vb-reads : Blanks (bytes 0 0 0 2 0 0x11 0 0 0 0 0 112 0) true (replicate 16384 0)

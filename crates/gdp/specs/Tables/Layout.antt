@@ -63,11 +63,12 @@ allBytes =
     over (0 ∷ 1 ∷ 2 ∷ []) (λ (f : ℕ). over modesRows (λ (w : ℕ × (ℕ × ℕ)). over signalsRows (λ (g : ℕ).
     0xABC ∷ 0x9DE ∷ w .1 .1 ∷ 0x71 ∷ 0x0B ∷ 0x23 ∷ 0x45 ∷ 0x67 ∷ 0xF1 ∷ 0x8F ∷ w .1 .0 ∷ (f + w .0) ∷ g ∷ [])))
 
--- each bit of the registers, of the code and of the progress
+-- v in every register, in the code and in the progress; each bit of them
+unfoldable pub flatAll : ℕ → List ℕ
+flatAll v = byteRow (flat (state Ef9366 (regs v v v v v v v v v) (Steps v v) Off false (flags false false false)))
+
 unfoldable pub flatBit : ℕ → List ℕ
-flatBit i =
-    let v = 2 ^ i in
-    byteRow (flat (state Ef9366 (regs v v v v v v v v v) (Steps v v) Off false (flags false false false)))
+flatBit i = flatAll (2 ^ i)
 
 -- The state of sixteen bytes ------------------------------------------------------------------------------------------
 
@@ -94,9 +95,16 @@ signalsRead first =
     times 2 (joined (λ (fr : ℕ). joined (λ (fv : ℕ). joined (λ (fp : ℕ). over (0 ∷ 1 ∷ 2 ∷ 2 ∷ []) (λ (p : ℕ). joined (λ (v : ℕ).
     times 2 (ownRegs ++ (first ++ (p ∷ v ∷ fp ∷ fv ∷ fr ∷ [])))) 0 2)) 0 2) 0 2) 0 2)
 
--- each bit of the registers, of the code and of the progress
+-- v in every register, in the code and in the progress; each bit of them
+unfoldable pub stateAll : ℕ → List ℕ
+stateAll v = stateRow (stateOf (bytes v v v v v v v v v v v 8 0))
+
 unfoldable pub stateBit : ℕ → List ℕ
-stateBit i = let v = 2 ^ i in stateRow (stateOf (bytes v v v v v v v v v v v 8 0))
+stateBit i = stateAll (2 ^ i)
+
+-- the largest X and Y, the last cycle of the largest character, all bits
+unfoldable pub largest : List ℕ
+largest = 4095 ∷ 12287 ∷ 65535 ∷ []
 
 -- What is named -------------------------------------------------------------------------------------------------------
 
@@ -116,6 +124,12 @@ unfoldable pub layout : List Reading
 layout =
     (allFlat, allBytes)
     ∷ (joined flatBit 0 16, joined (λ (i : ℕ). replicate 11 (2 ^ i) ++ (8 ∷ 0 ∷ [])) 0 16)
+    -- every byte, and the largest numbers
+    ∷ (joined flatAll 0 256 ++ over largest flatAll, joined (λ (v : ℕ). replicate 11 v ++ (8 ∷ 0 ∷ [])) 0 256 ++ over largest (λ (v : ℕ). replicate 11 v ++ (8 ∷ 0 ∷ [])))
+    ∷ (
+      joined stateAll 0 256 ++ over largest stateAll,
+      joined (λ (v : ℕ). replicate 9 v ++ (0 ∷ 1 ∷ v ∷ v ∷ replicate 5 0)) 0 256 ++ over largest (λ (v : ℕ). replicate 9 v ++ (0 ∷ 1 ∷ v ∷ v ∷ replicate 5 0)),
+    )
     ∷ (ofModes 0x00, modesRead (0 ∷ 0 ∷ 0 ∷ 0 ∷ 0 ∷ []))
     ∷ (ofModes 0x56, modesRead (1 ∷ 1 ∷ 1 ∷ 0 ∷ 1 ∷ []))
     ∷ (ofModes 0x28, modesRead (2 ∷ 0 ∷ 0 ∷ 1 ∷ 0 ∷ []))

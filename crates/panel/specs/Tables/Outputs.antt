@@ -38,6 +38,11 @@ lines =
       lineT 0 ++ (lineT 10 ++ lineT 1234),
       84 ∷ 9 ∷ 48 ∷ 10 ∷ 84 ∷ 9 ∷ 49 ∷ 48 ∷ 10 ∷ 84 ∷ 9 ∷ 49 ∷ 50 ∷ 51 ∷ 52 ∷ 10 ∷ [],
     )
+    -- the cycles of the largest character; the last line that a log may have
+    ∷ (
+      lineT 12288 ++ lineE 65536 20,
+      84 ∷ 9 ∷ 49 ∷ 50 ∷ 50 ∷ 56 ∷ 56 ∷ 10 ∷ 69 ∷ 9 ∷ 54 ∷ 53 ∷ 53 ∷ 51 ∷ 54 ∷ 9 ∷ 50 ∷ 48 ∷ 10 ∷ [],
+    )
     -- E, line number, number
     ∷ (
       lineE 0 21 ++ (lineE 12 6 ++ lineE 1000 20),
@@ -166,6 +171,17 @@ cards =
           ++ (expect 0 7 0 0 0 still ++ (expect 0 0 7 0 0 still ++ (expect 0 0 0 1792 0 still ++ (expect 0 0 0 7 0 still
           ++ (expect 0 0 0 0 1792 still ++ expect 0 0 0 0 7 still))))))))),
     )
+    -- a byte with its upper bits; every command with cycles
+    ∷ (
+      over (0x1 ∷ 0x2 ∷ 0x3 ∷ 0x5 ∷ 0x7 ∷ 0x8 ∷ 0x9 ∷ 0xA ∷ 0xB ∷ []) (λ (a : ℕ). stateAfter card (Write a 0xF6)),
+      expect 0x76 0 0 0 0 still ++ ((0 ∷ 6 ∷ 0x11 ∷ replicate 7 0) ++ (still ++ ((0 ∷ 0 ∷ 0xF6 ∷ replicate 7 0) ++ (still
+          ++ (expect 0 0xF6 0 0 0 still ++ (expect 0 0 0xF6 0 0 still ++ (expect 0 0 0 0x600 0 still ++ (expect 0 0 0 0xF6 0 still
+          ++ (expect 0 0 0 0 0x600 still ++ expect 0 0 0 0 0xF6 still))))))))),
+    )
+    ∷ (
+      joined (λ (c : ℕ). stateAfter card (Write 0 c)) 0x10 240,
+      joined (λ (c : ℕ). expect 0 0 0 0 0 (1 ∷ c ∷ replicate 6 0)) 0x10 240,
+    )
     -- 256 cycles and more
     ∷ (stateAfter stretched (Cycles 255), expect 0 255 0 255 0 (1 ∷ 0x10 ∷ 255 ∷ replicate 5 0))
     ∷ (stateAfter stretched (Cycles 256) ++ stateAfter stretched (Cycles 32768), expect 0 255 0 255 0 still ++ expect 0 255 0 255 0 still)
@@ -180,6 +196,7 @@ cards =
     ∷ (stateAfter card (Blanking false), expect 0 0 0 0 0 still)
     -- an edge in the open frame, and one that is refused
     ∷ (stateAfter aimed (Edge 10 20), 0 ∷ 0 ∷ 0x11 ∷ 0 ∷ 0 ∷ 0 ∷ 0 ∷ 41 ∷ 20 ∷ 0 ∷ still)
+    ∷ (stateAfter aimed (Edge 63 255) ++ stateAfter aimed (Edge 32 128), 0 ∷ 0 ∷ 0x11 ∷ 0 ∷ 0 ∷ 0 ∷ 0 ∷ 253 ∷ 255 ∷ 0 ∷ still ++ (0 ∷ 0 ∷ 0x11 ∷ 0 ∷ 0 ∷ 0 ∷ 0 ∷ 129 ∷ 128 ∷ 0 ∷ still))
     ∷ (stateAfter aimed (Edge 64 20), expect 0 0 0 0 0 (0 ∷ 0 ∷ 0 ∷ 2 ∷ 0 ∷ 0 ∷ 0 ∷ 0 ∷ []))
     -- a malformed line changes nothing
     ∷ (stateAfter drawing Malformed, expect 3 5 2 0 0 (1 ∷ 0x11 ∷ 0 ∷ 0 ∷ 0 ∷ 0 ∷ 0 ∷ 0 ∷ []))
@@ -200,6 +217,10 @@ log =
     ∷ (86 ∷ 9 ∷ 50 ∷ [])
     ∷ []
 
+-- W 3 22
+unfoldable pub w322 : List ℕ
+w322 = 87 ∷ 9 ∷ 51 ∷ 9 ∷ 50 ∷ 50 ∷ []
+
 -- dot d alone lit of k bytes
 unfoldable pub lit : ℕ → ℕ → ℕ → List ℕ
 lit before byte behind = replicate before 0 ++ (byte ∷ replicate behind 0)
@@ -218,6 +239,19 @@ rows =
           ∷ [],
     )
     ∷ (answers 1 card [], [])
+    -- lines 254 to 256, and the last two that a log may have: empty lines
+    ∷ (
+      answers 254 card ([] ∷ [] ∷ [] ∷ []),
+      69 ∷ 9 ∷ 50 ∷ 53 ∷ 52 ∷ 9 ∷ 50 ∷ 48 ∷ 10 ∷ 69 ∷ 9 ∷ 50 ∷ 53 ∷ 53 ∷ 9 ∷ 50 ∷ 48 ∷ 10 ∷ 69 ∷ 9 ∷ 50 ∷ 53 ∷ 54 ∷ 9 ∷ 50 ∷ 48 ∷ 10 ∷ [],
+    )
+    ∷ (
+      answers 65535 card ([] ∷ [] ∷ []),
+      69 ∷ 9 ∷ 54 ∷ 53 ∷ 53 ∷ 51 ∷ 53 ∷ 9 ∷ 50 ∷ 48 ∷ 10 ∷ 69 ∷ 9 ∷ 54 ∷ 53 ∷ 53 ∷ 51 ∷ 54 ∷ 9 ∷ 50 ∷ 48 ∷ 10 ∷ [],
+    )
+    -- W 3 22 as the only line, as the first of 301, and before R 3
+    ∷ (stateRow ((shown card (w322 ∷ [])) .state), 0 ∷ 0 ∷ 0x22 ∷ 0 ∷ 0 ∷ 0 ∷ 0 ∷ 0 ∷ 0 ∷ 0 ∷ still)
+    ∷ (stateRow ((shown card (w322 ∷ replicate 300 [])) .state), 0 ∷ 0 ∷ 0x22 ∷ 0 ∷ 0 ∷ 0 ∷ 0 ∷ 0 ∷ 0 ∷ 0 ∷ still)
+    ∷ (answers 1 card (w322 ∷ (82 ∷ 9 ∷ 51 ∷ []) ∷ []), 82 ∷ 9 ∷ 51 ∷ 9 ∷ 50 ∷ 50 ∷ 10 ∷ [])
     ∷ (stateRow ((shown card log) .state), 0 ∷ 0 ∷ 0x22 ∷ 0 ∷ 0 ∷ 0 ∷ 0 ∷ 0 ∷ 0 ∷ 0 ∷ still)
     ∷ (stateRow ((shown flagged []) .state), expect 0x40 0 0 0 0 (0 ∷ 0 ∷ 0 ∷ 0 ∷ 0 ∷ 0 ∷ 0 ∷ 1 ∷ []))
     -- the dots from d on, k of them: each bit of a byte; none before d, none behind
@@ -232,6 +266,12 @@ rows =
     ∷ (
       dotLines (2 ∷ (replicate 62 0 ++ (0x80 ∷ 1 ∷ []))) 0 520,
       80 ∷ 9 ∷ 49 ∷ 9 ∷ 48 ∷ 10 ∷ 80 ∷ 9 ∷ 53 ∷ 49 ∷ 49 ∷ 9 ∷ 48 ∷ 10 ∷ 80 ∷ 9 ∷ 48 ∷ 9 ∷ 49 ∷ 10 ∷ [],
+    )
+    -- (300, 200), and dots all over: (32k + 5, 16k + 9)
+    ∷ (dotLines (lit 12837 0x10 0) 102696 8, 80 ∷ 9 ∷ 51 ∷ 48 ∷ 48 ∷ 9 ∷ 50 ∷ 48 ∷ 48 ∷ 10 ∷ [])
+    ∷ (
+      joined (λ (k : ℕ). dotLines (replicate 16384 255) (512 * (16 * k + 9) + 32 * k + 5) 1) 0 16,
+      joined (λ (k : ℕ). lineP (32 * k + 5) (16 * k + 9)) 0 16,
     )
     ∷ (dotLines (lit 16383 0x80 0) 131064 8, 80 ∷ 9 ∷ 53 ∷ 49 ∷ 49 ∷ 9 ∷ 50 ∷ 53 ∷ 53 ∷ 10 ∷ [])
     -- input past 65,536 bytes: only E, 0, 21

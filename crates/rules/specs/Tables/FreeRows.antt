@@ -10,12 +10,13 @@ use Rattle.basis.specs.Reading.{Reading, each, joined}
 use Rattle.rules.specs.Cycles.{left, used, dots, after}
 use Rattle.rules.specs.Blanking.{afterVb, pictureVb}
 use Rattle.rules.specs.Registers.{registerAt}
-use Rattle.rules.specs.Calls.{memory, written, granted, located}
-use Rattle.rules.specs.Tables.Rows.{nth, but, stated, shown, writes, reads, strikes, gives, rich}
+use Rattle.rules.specs.Figure.{tables}
+use Rattle.rules.specs.Calls.{memory, written, granted, blanked, located}
+use Rattle.rules.specs.Tables.Rows.{nth, but, stated, shown, writes, reads, strikes, gives, refuses, rich}
 use Rattle.rules.specs.Tables.RegisterRows.{running, clearing, flagged}
 use Rattle.rules.specs.Tables.FrameRows.{doing, scene, pictured}
-use Rattle.rules.specs.Tables.DrawRows.{counted, lettered, full, granting, stroke, letter, any}
-use Rattle.rules.specs.Tables.RefusalRows.{flaw, flaws, kept, outputs}
+use Rattle.rules.specs.Tables.DrawRows.{counted, lettered, full, granting, stroke, letter, any, ran, vectorRan}
+use Rattle.rules.specs.Tables.RefusalRows.{flaw, flaws, lent, kept, outputs}
 
 -- a row whose other things are otherwise: all flags set; the pen's sequence waits, or is open; VB is high; VB is high, the pen
 -- waits and its flag is set; a number is before the row by so many places
@@ -62,6 +63,10 @@ freeWrites =
     ∷ (writes (but 1 0 rich) 0x1 0x7F, gives 0 (but 1 0x7F rich))
     ∷ (writes (but 1 0 (but 16 1 rich)) 0x1 0x7F, gives 0 (but 1 0x7F (but 16 1 rich)))
     ∷ (writes flagged 0x1 0x00, gives 0 (but 1 0 flagged))
+    -- 07 puts CSIZE to 11 whatever it was
+    ∷ (each (λ s. nth 5 (writes (but 3 s rich) 0x0 0x07)) 0 256, replicate 256 0x11)
+    -- 7 under every CTRL2 whose bit 2 is high
+    ∷ (each (λ c2. nth 0 (writes (but 2 c2 rich) 0x0 0x41)) 0 16, joined (λ i. replicate 4 0 ++ replicate 4 7) 0 2)
     -- X and Y take all twelve bits on a cyclic screen too
     ∷ (
       writes (but 1 0x08 rich) 0x8 0x0F ++ (writes (but 1 0x08 rich) 0x9 0xFF ++ (writes (but 1 0x08 rich) 0xA 0x0F ++ writes (but 1 0x08 rich) 0xB 0xFF)),
@@ -93,6 +98,9 @@ freeReads = (
     -- every value of a register is read as it is; of XLP each with bit 1 low
     ∷ (valuesAt 1 0x1 128 ++ (valuesAt 2 0x2 16 ++ (valuesAt 3 0x3 256 ++ (valuesAt 4 0x5 256 ++ (valuesAt 5 0x7 256 ++ valuesAt 9 0xD 256)))), counting 128 ++ (counting 16 ++ (counting 256 ++ (counting 256 ++ (counting 256 ++ counting 256)))))
     ∷ (joined (λ i. nth 1 (reads (but 8 (4 * i) rich) 0xC) ∷ nth 1 (reads (but 8 (4 * i + 1) rich) 0xC) ∷ []) 0 64, joined (λ i. (4 * i) ∷ (4 * i + 1) ∷ []) 0 64)
+    -- bit 2 is low while any code runs, while a clear waits and while it is in its frame, 0C too
+    ∷ (each (λ c. registerAt (stated (but 10 1 (but 11 c rich))) 0x0 / 4 % 2) 0 256, replicate 256 0)
+    ∷ (each (λ w. registerAt (stated (doing w rich)) 0x0 / 4 % 2) 0 6, 1 ∷ replicate 5 0)
     -- bit 3 by X alone and by Y alone, at their last places
     ∷ (
       joined (λ f. each (λ i. registerAt (stated (but i 4095 (but 0 f (but 6 0 (but 7 0 rich))))) 0x0) 6 2) 0 3,
@@ -129,6 +137,11 @@ freeFrames =
       joined (λ c1. 0 ∷ 0 ∷ (c1 / 16 % 2) ∷ 0 ∷ 0 ∷ []) 0 128,
     )
     ∷ (each (λ c1. nth 10 (strikes (but 1 c1 (scene 0 2 0 0 0 0 0)) 10 20)) 0 128, replicate 128 41)
+    -- an edge while VB is high, with no sequence and with one that waits; past the screen
+    ∷ (
+      strikes (scene 0 0 1 7 0 0 0) 10 20 ++ (strikes (scene 0 1 1 7 0 0 0) 10 20 ++ strikes (scene 0 1 1 7 0 0 0) 64 0),
+      gives 0 (scene 0 0 1 7 0 0 0) ++ (gives 0 (scene 0 1 1 7 0 0 0) ++ refuses 8 (scene 0 1 1 7 0 0 0)),
+    )
     -- an edge where the last one was
     ∷ (each (λ h. nth 10 (strikes (but 8 (4 * h) (scene 0 2 0 0 0 0 0)) h 0)) 0 64, each (λ h. 4 * h + 1) 0 64)
     ∷ []
@@ -193,6 +206,24 @@ freeGrants =
       joined (λ k. granting (other 0 k (letter 0x02 90 111 52)) lettered 6) 0 5,
       joined (λ k. other 1 k (granting (letter 0x02 90 111 52) lettered 6)) 0 5,
     )
+    -- ready's flag that is set stays set at a command's end, though its mask is low
+    ∷ (
+      joined (λ k. granting (other 0 k (stroke 0x05 2 12 21)) counted 9) 0 5,
+      joined (λ k. other 1 k (granting (stroke 0x05 2 12 21) counted 9)) 0 5,
+    )
+    -- nothing is used where nothing runs, nor by a clear that waits, the pen up
+    ∷ (joined (λ k. granting (other 0 k rich) counted 65535) 0 5, joined (λ k. 0 ∷ other 0 k rich) 0 5)
+    ∷ (granting (but 1 0x40 (but 10 2 rich)) counted 9, 0 ∷ but 1 0x40 (but 10 2 rich))
+    -- vectors with tilt high and characters upwards: those of neither
+    ∷ (joined (ran 0x0C) 0x10 8, joined (λ d. vectorRan 0x0C d 5 9) 0 8)
+    ∷ (joined (ran 0x0C) 0x18 8, joined (λ d. vectorRan 0x0C d 9 9) 0 8)
+    ∷ (joined (ran 0x0C) 0xE0 32, joined (λ m. joined (λ d. vectorRan 0x0C d 3 m) 0 8) 0 4)
+    -- the eraser with FMAT low, cyclic or not, and with FMAT high: dots 2 and 3 of four
+    ∷ (
+      (granted (stated (but 0 2 (stroke 0x09 2 12 21))) 3 (memory (replicate 8192 255)) counted) .memory .picture
+          ++ (granted (stated (but 0 1 (stroke 0x01 2 12 21))) 3 (memory (replicate 32768 255)) counted) .memory .picture,
+      replicate 673 255 ++ (207 ∷ (replicate 8863 255 ++ (207 ∷ replicate 31422 255))),
+    )
     -- the line type under every CTRL1 with the pen or eraser down, and in every kind of vector
     ∷ (
       joined (λ k. dots (stated (stroke (2 * k + 1) 0 10 20)) counted 65535) 0 64,
@@ -211,6 +242,12 @@ freeGrants =
       dots (stated (but 0 1 (but 1 0x0B (but 11 0x80 (letter 0x00 0 517 812))))) counted 1
           ++ dots (stated (but 0 2 (but 1 0x0B (but 11 0x80 (letter 0x00 0 517 812))))) counted 1,
       153605 ∷ 11269 ∷ [],
+    )
+    -- one at (3000, 3000) and one at (4095, 4095) on a cyclic screen, in each format
+    ∷ (
+      joined (λ f. dots (stated (but 0 f (but 1 0x0B (but 11 0x80 (letter 0x00 0 3000 3000))))) counted 1
+          ++ dots (stated (but 0 f (but 1 0x0B (but 11 0x80 (letter 0x00 0 4095 4095))))) counted 1) 0 3,
+      94648 ∷ 131071 ∷ 225720 ∷ 262143 ∷ 47288 ∷ 65535 ∷ [],
     )
     -- X and Y past the window, under CTRL1 40 to 4F and in every format, on the way and at the end: nothing is folded
     ∷ (
@@ -260,6 +297,17 @@ freeRefusals =
     -- 1 goes before every other number of a write, at each address and for each code, tilted or not
     (joined (λ k. each (λ a. (written (stated (getD flaws k [])) a 0) .number) 0 16) 0 10, replicate 160 1)
     ∷ (each (λ c. (written (stated (but 2 0x04 (but 6 4096 rich))) 0x0 c) .number) 0 256, replicate 256 1)
+    -- and of a read, at each address, and of an edge with both past the screen
+    ∷ (each (λ a. nth 0 (reads (but 6 4096 rich) a)) 0 16 ++ (nth 0 (strikes (but 6 4096 rich) 64 256) ∷ []), replicate 17 1)
+    -- a character runs under every CTRL2 whose bit 2 is low
+    ∷ (each (λ c2. flaw (but 2 c2 (but 10 1 (but 11 0x41 rich)))) 0 16, joined (λ i. replicate 4 0 ++ replicate 4 1) 0 2)
+    -- 2 goes before 3 while a command runs, too; while a clear waits or is in its frame, 2 and 3 as ever
+    ∷ (lent 0 1 16383 479 ++ (lent 0 2 16383 479 ++ (lent 0 2 16384 479 ++ lent 0 2 16384 480)), 2 ∷ 2 ∷ 2 ∷ 2 ∷ 3 ∷ 0 ∷ 0 ∷ 0 ∷ [])
+    ∷ (
+      (blanked (stated clearing) true (memory [])) .answer .number ∷ (granted (stated clearing) 1 (memory []) (tables [])) .answer .number
+          ∷ (granted (stated clearing) 1 (memory (replicate 16384 0)) (tables [])) .answer .number ∷ [],
+      2 ∷ 2 ∷ 3 ∷ [],
+    )
     -- X and Y with one bit above the twelfth, and all; h above 63 and v above 255 likewise
     ∷ (joined (λ k. each (λ i. flaw (but i (2 ^ k) rich)) 6 2) 0 16, replicate 24 0 ++ replicate 8 1)
     ∷ (flaw (but 6 65535 rich) ∷ flaw (but 7 65535 rich) ∷ [], 1 ∷ 1 ∷ [])
