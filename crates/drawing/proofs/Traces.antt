@@ -1,8 +1,8 @@
 -- The laws of a vector inside the window: that its dots are in the picture, and how their numbers step.
 -- Assumes nothing.
-use mathlib.Core.Path.{_≡_, refl, sym, ap, _∙_}
+use mathlib.Core.Path.{_≡_, sym, ap, _∙_}
 use mathlib.Core.Bool.{Bool, true, false, cond}
-use mathlib.Core.List.{List, [], _∷_}
+use mathlib.Core.List.{[], _∷_}
 use Prim.Native.Nat.{ℕ, zero, suc, _+_, _-_, _*_, _/_, _%_, _≤_, _<_, min}
 use native.Mathlib.Nat.{add-mul, suc-mul, one-mul, zero-mul, mul-comm, mul-le-mul-right, min-eq-left}
 use native.Mathlib.Omega.{arith}
@@ -63,7 +63,7 @@ steep-stride false false d w h = omega arith
 number-most : (w h x y : ℕ) → w * h ≤ 524288 → x < w → y < h → dotNumber w x y < 1048576
 number-most w h x y few hx hy = omega (arith, mul-le-mul-right w hy, suc-mul y w, mul-comm w h)
 
--- how far a dot is along each axis, by what the shorter one carries
+-- how much further along each axis the next dot is, by what the shorter one carries
 abbrev hopX : Line → ℕ → ℕ
 hopX l i = cond (l .steep) (carry (l .long) (l .short) i) 1
 
@@ -99,7 +99,7 @@ module _ (l : Line) (g : Lengths l) (w h x₀ y₀ : ℕ) where
       let across = axis-step (l .left) _ _ w (hopX l i) (here .0) (there .0) (s .wide) (hop .0) (next .0) in
       let up = lines-step (l .down) w _ _ (hopY l i) (axis-step (l .down) _ _ h (hopY l i) (here .1) (there .1) (s .high) (hop .1) (next .1)) in
       number-step (l .left) (l .down) _ _ _ _ (hopX l i) (hopY l i * w) across up
-      (number-most w h (ahead x₀ (vectorX l i)) (ahead y₀ (vectorY l i)) (s .few) (here .0) (here .1))
+      (dot-most i s (omega arith))
       (number-most w h (ahead x₀ (vectorX l (i + 1))) (ahead y₀ (vectorY l (i + 1))) (s .few) (there .0) (there .1))
       (hop .0) (omega (arith, s .wide, mul-le-mul-right w (hop .1)))
 
@@ -154,15 +154,16 @@ pub either-most : (b : Bool) (m n : ℕ) → m ≤ 1048576 → n ≤ 1048576 →
 either-most true m n h k = h
 either-most false m n h k = k
 
+-- a stride of at most 4,096 dots is small
+pub stride-most : (back : Bool) (n : ℕ) → n ≤ 4096 → stride back n ≤ 1048576
+stride-most true n h = omega arith
+stride-most false n h = omega arith
+
 pub strode-most : (w : ℕ) (l : Line) (by : Strides) → Strode w l by → w ≤ 4096 → (by .straight ≤ 1048576) × (by .diagonal ≤ 1048576)
 strode-most w l by go h = (
-  rw (go .straight) (either-most (l .steep) (stride (l .down) w) (stride (l .left) 1) (most (l .down) w h) (most (l .left) 1 (omega arith))),
+  rw (go .straight) (either-most (l .steep) (stride (l .down) w) (stride (l .left) 1) (stride-most (l .down) w h) (stride-most (l .left) 1 (omega arith))),
   rw (go .diagonal) (omega arith),
 )
-  where
-    most : (back : Bool) (n : ℕ) → n ≤ 4096 → stride back n ≤ 1048576
-    most true n k = omega arith
-    most false n k = omega arith
 
 -- a vector that lies inside from dot i on shows its dots from there on
 pub within-shown : (w : Window) (n : ℕ) (l : Line) (at : Spot) (i : ℕ) → Screen w n → Lengths l → at .x < 4096 → at .y < 4096

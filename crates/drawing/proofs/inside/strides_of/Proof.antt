@@ -1,22 +1,15 @@
 -- `drawing::inside::strides_of` meets its contract.
 -- Assumes nothing.
-use mathlib.Core.Bool.{Bool, true, false}
-use Prim.Native.Nat.{ℕ, _≤_}
 use native.Mathlib.Omega.{arith}
 use borrow.Author.Needs.{needs}
-use Rattle.drawing.specs.Working.Inside.{stride}
+use Rattle.drawing.proofs.Traces.{stride-most}
 use Rattle.drawing.proofs.inside.strides_of.Statement.{statement}
 use Rattle.drawing.proofs.inside.strides_of.Tie as tie
-
--- a stride is small
-most : (back : Bool) (n : ℕ) → n ≤ 4096 → stride back n ≤ 1048576
-most true n h = omega arith
-most false n h = omega arith
 
 add-both : tie.Need-add-both
 add-both c =
     let a = c .before .before .args in
-    omega (arith, c .before .stride .ensures, c .stride2 .ensures, most (a .l .left) 1 (omega arith), most (a .l .down) (a .width) (c .before .before .pre))
+    omega (arith, c .before .stride .ensures, c .stride2 .ensures, stride-most (a .l .left) 1 (omega arith), stride-most (a .l .down) (a .width) (c .before .before .pre))
 
 returns : tie.Need-returns
 returns c =
