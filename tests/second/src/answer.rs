@@ -21,6 +21,13 @@ pub struct AddressAnswer {
     pub msl: u8,
 }
 
+#[derive(Clone, Copy, PartialEq, Eq, Debug)]
+pub struct PbmAnswer {
+    pub number: u8,
+    /// The bytes written; past 16 bits (reading a.21).
+    pub value: u32,
+}
+
 impl Answer {
     pub fn accepted(value: u16, state: State) -> Answer {
         Answer { number: ACCEPTED, value, state }
@@ -29,5 +36,15 @@ impl Answer {
     /// A refusal has value 0 and leaves the state as it was handed in.
     pub fn refused(number: u8, state: &State) -> Answer {
         Answer { number, value: 0, state: *state }
+    }
+}
+
+impl PbmAnswer {
+    pub fn accepted(value: u32) -> PbmAnswer {
+        PbmAnswer { number: ACCEPTED, value }
+    }
+
+    pub fn refused(number: u8) -> PbmAnswer {
+        PbmAnswer { number, value: 0 }
     }
 }

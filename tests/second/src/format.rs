@@ -24,6 +24,10 @@ impl Format {
         }
     }
 
+    pub fn dots(self) -> usize {
+        usize::from(self.width()) * usize::from(self.height())
+    }
+
     /// Eight dots share a byte of the picture.
     pub fn bytes(self) -> usize {
         usize::from(self.width() / 8) * usize::from(self.height())

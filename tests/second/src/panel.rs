@@ -5,6 +5,7 @@ use crate::blanking::set_vb;
 use crate::cycles::cycles;
 use crate::format::Format;
 use crate::light_pen::lpck;
+use crate::picture::is_lit;
 use crate::refusal::{ACCEPTED, TABLE_BYTES};
 use crate::register::{read, write};
 use crate::state::{fresh, State};
@@ -122,11 +123,9 @@ fn play(record: &Record, state: &mut State, picture: &mut [u8], output: &mut Str
 }
 
 fn print_dots(picture: &[u8], output: &mut String) {
-    let bytes_in_line = usize::from(FORMAT.width() / 8);
-    for y in 0..usize::from(FORMAT.height()) {
-        for x in 0..usize::from(FORMAT.width()) {
-            let byte = picture[y * bytes_in_line + x / 8];
-            if byte >> (x % 8) & 1 == 1 {
+    for y in 0..FORMAT.height() {
+        for x in 0..FORMAT.width() {
+            if is_lit(FORMAT, picture, (x, y)) {
                 output.push_str(&format!("P\t{x}\t{y}\n"));
             }
         }

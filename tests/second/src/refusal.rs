@@ -1,6 +1,9 @@
 //! The refusal numbers, and for each call those that can apply to it.
 
 use crate::character::is_character;
+use crate::format::Format;
+use crate::pbm_in::PbmFile;
+use crate::pbm_out::file_bytes;
 use crate::position::POSITIONS;
 use crate::register::{CMD, XLP, YLP};
 use crate::state::{Pen, State, Work, CTRL2_TILT};
@@ -15,6 +18,10 @@ pub const READ_ONLY: u8 = 5;
 pub const BUSY: u8 = 6;
 pub const TILTED: u8 = 7;
 pub const PEN_RANGE: u8 = 8;
+pub const BUFFER_SHORT: u8 = 9;
+pub const NO_HEAD: u8 = 10;
+pub const OTHER_SIZE: u8 = 11;
+pub const BAD_DOTS: u8 = 12;
 
 /// 96 glyphs of five bytes.
 pub const TABLE_BYTES: usize = 480;
@@ -39,13 +46,13 @@ pub fn of_read(state: &State, address: u8) -> u8 {
 pub fn of_cycles(state: &State, picture: &[u8], table: &[u8]) -> u8 {
     lowest(&[
         (bad_state(state), BAD_STATE),
-        (wrong_picture(state, picture), PICTURE_LENGTH),
+        (wrong_picture(state.format, picture), PICTURE_LENGTH),
         (table.len() != TABLE_BYTES, TABLE_LENGTH),
     ])
 }
 
 pub fn of_set_vb(state: &State, picture: &[u8]) -> u8 {
-    lowest(&[(bad_state(state), BAD_STATE), (wrong_picture(state, picture), PICTURE_LENGTH)])
+    lowest(&[(bad_state(state), BAD_STATE), (wrong_picture(state.format, picture), PICTURE_LENGTH)])
 }
 
 pub fn of_lpck(state: &State, h: u16, v: u16) -> u8 {
@@ -56,6 +63,24 @@ pub fn of_address(state: &State) -> u8 {
     lowest(&[(bad_state(state), BAD_STATE)])
 }
 
+/// Exactly enough is not short (reading a.20).
+pub fn of_pbm_write(format: Format, picture: &[u8], buffer: &[u8]) -> u8 {
+    lowest(&[
+        (wrong_picture(format, picture), PICTURE_LENGTH),
+        (buffer.len() < file_bytes(format), BUFFER_SHORT),
+    ])
+}
+
+/// Without two numbers there is no size to differ and no dot to look for (reading a.12).
+pub fn of_pbm_read(format: Format, file: Option<&PbmFile>, picture: &[u8]) -> u8 {
+    lowest(&[
+        (wrong_picture(format, picture), PICTURE_LENGTH),
+        (file.is_none(), NO_HEAD),
+        (file.is_some_and(|file| !file.has_size_of(format)), OTHER_SIZE),
+        (file.is_some_and(|file| file.dots(format).is_none()), BAD_DOTS),
+    ])
+}
+
 fn lowest(rows: &[(bool, u8)]) -> u8 {
     rows.iter().filter(|(applies, _)| *applies).map(|(_, number)| *number).min().unwrap_or(ACCEPTED)
 }
@@ -64,8 +89,8 @@ fn no_register(address: u8) -> bool {
     matches!(address, 0x4 | 0x6 | 0xE | 0xF) || address > 15
 }
 
-fn wrong_picture(state: &State, picture: &[u8]) -> bool {
-    picture.len() != state.format.bytes()
+fn wrong_picture(format: Format, picture: &[u8]) -> bool {
+    picture.len() != format.bytes()
 }
 
 fn bad_state(state: &State) -> bool {

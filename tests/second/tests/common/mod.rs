@@ -5,6 +5,7 @@
 pub mod dots;
 pub mod glyph;
 pub mod numbers;
+pub mod pbm;
 pub mod random;
 
 use second::{cycles, fresh, lpck, read, set_vb, write, ClearKind, Flags, Format, Pen, State, Work};
