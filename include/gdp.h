@@ -1,5 +1,5 @@
-/* The EF9365 / EF9366 for C11 and C++11: link with libgdp.a. `rt staticlib gdp` makes it for x86-64 and its System V
-   calling convention, `sh tools/archive` for the processor at hand (README.md).
+/* The EF9365 / EF9366 for C11 and C++11: link with libgdp.a. `sh tools/archive` makes it for the processor at hand; for
+   x86-64 and its System V calling convention it is what `rt staticlib card` makes, under that name (README.md).
 
    A call takes the state by value and hands back the next one. The library keeps nothing, allocates nothing, has no
    variables of its own and needs only memset: it is reentrant, from several threads and from interrupts alike.

@@ -1,13 +1,13 @@
-// The EF9365 and EF9366: a struct of sixteen bytes by value whose methods are the calls, and the names by which C and Rust call them.
+// The EF9365 and EF9366: a struct of sixteen bytes by value whose methods are the calls.
 // Proved: each call gives, for every sixteen bytes and every lent memory, exactly what the definitions of crate rules give for the
 // state that the bytes stand for, and its statement allows no other result. No call requires anything. Assumes nothing.
 pub mod address;
 mod bits;
 pub mod blanking;
-pub mod calls;
 mod check;
 mod commands;
 pub mod cycles;
+pub mod fresh;
 pub mod light_pen;
 pub mod read;
 pub mod state;

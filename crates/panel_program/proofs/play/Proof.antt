@@ -13,4 +13,4 @@ slice-aggregate-write-answer c =
     sym (length-take-le (p .play .result) (p .play .last .1 .0) (omega (arith, p .play .ensures .inside, p .play .kept .1 .0)))
 
 pub play-spec : {M : Type 1} → statement M
-play-spec = tie.close (tie.spec (λ c κs. search needs) (λ c. search needs) (λ c κs. search needs) (λ c. search needs) slice-aggregate-write-answer (λ c κs. search needs) (λ c. search needs))
+play-spec = tie.close (tie.spec (λ c κs. search needs) (λ c. search needs) (λ c κs. search needs) (λ c. search needs) slice-aggregate-write-answer (λ c. search needs) (λ c κs. search needs) (λ c. search needs))

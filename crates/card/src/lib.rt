@@ -1,46 +1,21 @@
-// The calls as C and Rust see them. A slice crosses as a pointer and a length; the caller lends that much memory,
-// and lends the picture to nobody else meanwhile.
+// The library: the calls as C and Rust see them. A slice crosses as a pointer and a length; the caller lends that much memory,
+// and lends a memory that a call may write to nobody else meanwhile.
+// Proved: each call gives, for every argument and every lent memory, exactly what the crates below name. Assumes nothing.
 ghost use mathlib.Core.Path.{_≡_};
 ghost use Rattle.rules.specs.Calls.{written, readOut, struck, located};
 ghost use Rattle.gdp.specs.Flat.{stateOf};
-ghost use Rattle.gdp.specs.Calls.{answerOf, outputsOf, freshAnswer, allOnes, Grants, levelOf, Blanks};
-use crate::address::Outputs;
-use crate::bits::format_of;
-use crate::state::Answer;
-use crate::state::Gdp;
-use crate::state::accepted;
-use crate::state::refused;
-
-// What stands for no state: every byte 255.
-fn all_ones() -> Gdp
-    ensures { λ r. ⌜ r ≡ allOnes ⌝ }
-{
-    Gdp {
-        x: 65535,
-        y: 65535,
-        done: 65535,
-        ctrl1: 255,
-        ctrl2: 255,
-        csize: 255,
-        deltax: 255,
-        deltay: 255,
-        xlp: 255,
-        ylp: 255,
-        code: 255,
-        modes: 255,
-        signals: 255,
-    }
-}
+ghost use Rattle.gdp.specs.Calls.{answerOf, outputsOf, freshAnswer, Grants, levelOf, Blanks};
+use gdp::address::Outputs;
+use gdp::fresh::fresh_of;
+use gdp::state::Answer;
+use gdp::state::Gdp;
 
 // The fresh state of format 0, EF9366, 1, FMAT high, or 2, FMAT low; any other number is refused with 1.
 #[no_mangle]
 pub extern "C" fn gdp_fresh(format: u8) -> Answer
     ensures { λ r. ⌜ r ≡ freshAnswer format ⌝ }
 {
-    if format < 3 {
-        return accepted(0, Gdp::fresh(format_of(format)));
-    }
-    refused(1, all_ones())
+    fresh_of(format)
 }
 
 #[no_mangle]

@@ -1,7 +1,7 @@
 use mathlib.Core.Path.{refl}
 use Rattle.gdp.specs.Calls.{allOnes}
-use Rattle.gdp.proofs.calls.all_ones.Statement.{statement}
-use Rattle.gdp.proofs.calls.all_ones.Tie as tie
+use Rattle.gdp.proofs.fresh.all_ones.Statement.{statement}
+use Rattle.gdp.proofs.fresh.all_ones.Tie as tie
 
 returns : tie.Need-returns
 unfolding allOnes
