@@ -1,4 +1,5 @@
-/* A first lesson in the library: draws a forecast of 96 points, reads STATUS, and takes the curve away again.
+/* A first lesson in the library: draws a forecast of 96 points, reads STATUS, writes the picture as a plain PBM file,
+   takes the curve away again, and reads the file back. With a name, host morning.pbm, it keeps the file under it.
    README.md says how to build it. Where something is not as it should be it says so and ends with status 1. */
 #include "gdp.h"
 
@@ -77,7 +78,15 @@ static unsigned lit(const card *c) {
     return dots;
 }
 
-int main(void) {
+static void keep(const char *name, const uint8_t *file, size_t length) {
+    FILE *out = fopen(name, "wb");
+    if (out && fwrite(file, 1, length, out) == length && fclose(out) == 0)
+        return;
+    fprintf(stderr, "host.c: the picture could not be written to %s.\n", name);
+    exit(1);
+}
+
+int main(int argc, char **argv) {
     card c = {.picture = calloc(GDP_EF9366_BYTES, 1), .table = calloc(GDP_TABLE_BYTES, 1)};
     if (!c.picture || !c.table) {
         fprintf(stderr, "host.c: there is no memory for the picture.\n");
@@ -100,12 +109,24 @@ int main(void) {
     expect("STATUS read again", second, 0x05);     /* reading clears the flags */
     printf("STATUS: %02X, read again %02X\n", first, second);
 
+    static uint8_t file[GDP_EF9366_PBM_BYTES];
+    gdp_pbm_answer written = gdp_write_pbm(GDP_EF9366, c.picture, GDP_EF9366_BYTES, file, sizeof file);
+    expect("the refusal number of the file", written.number, GDP_ACCEPTED);
+    if (argc > 1)
+        keep(argv[1], file, written.value);
+    printf("as plain PBM: %u bytes\n", (unsigned)written.value);
+
     /* From the same start, or ties fall otherwise and dots stay. */
     move(&c, start.x, start.y);
     put(&c, GDP_CTRL1, ERASER);
     expect("the eraser's number of cycles", curve(&c), cycles);
     expect("the number of dots left", lit(&c), 0);
     printf("taken away: %u cycles, the picture is dark again\n", cycles);
+
+    gdp_pbm_answer read = gdp_read_pbm(GDP_EF9366, file, sizeof file, c.picture, GDP_EF9366_BYTES);
+    expect("the refusal number of reading the file", read.number, GDP_ACCEPTED);
+    expect("the number of dots read back", lit(&c), dots);
+    printf("read back: %u dots lit\n", dots);
     free(c.picture);
     free(c.table);
     return 0;

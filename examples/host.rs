@@ -1,4 +1,5 @@
-//! A first lesson in the library: draws a forecast of 96 points, reads STATUS, and takes the curve away again.
+//! A first lesson in the library: draws a forecast of 96 points, reads STATUS, writes the picture as a plain PBM file,
+//! takes the curve away again, and reads the file back. With a name, host morning.pbm, it keeps the file under it.
 //! README.md says how to build it. Where something is not as it should be it says so and ends with status 1.
 
 /// `include/gdp.h` says what each field means; some only the library reads.
@@ -16,8 +17,14 @@ struct Answer {
     value: u16,
     state: State,
 }
+#[repr(C)]
+struct PbmAnswer {
+    number: u8,
+    value: u32,
+}
 const _: () = assert!(size_of::<State>() == 16 && align_of::<State>() == 2);
 const _: () = assert!(size_of::<Answer>() == 20 && std::mem::offset_of!(Answer, state) == 4);
+const _: () = assert!(size_of::<PbmAnswer>() == 8 && std::mem::offset_of!(PbmAnswer, value) == 4);
 
 // Safe to call with any numbers, as long as each pointer comes with the length of its own memory.
 #[link(name = "gdp", kind = "static")]
@@ -26,8 +33,11 @@ extern "C" {
     fn gdp_write(state: State, address: u8, value: u8) -> Answer;
     fn gdp_read(state: State, address: u8) -> Answer;
     fn gdp_grant(state: State, n: u16, pic: *mut u8, pic_len: usize, table: *const u8, table_len: usize) -> Answer;
+    fn gdp_write_pbm(format: u8, pic: *const u8, pic_len: usize, buffer: *mut u8, buffer_len: usize) -> PbmAnswer;
+    fn gdp_read_pbm(format: u8, file: *const u8, file_len: usize, pic: *mut u8, pic_len: usize) -> PbmAnswer;
 }
 
+const EF9366: u8 = 0; // the format: 512 by 256 dots
 const STATUS: u8 = 0; // CMD when written
 const CTRL1: u8 = 1;
 const DELTAX: u8 = 5;
@@ -86,6 +96,20 @@ impl Card {
     fn lit(&self) -> usize {
         self.picture.iter().map(|byte| byte.count_ones() as usize).sum()
     }
+    /// The picture as a plain PBM file.
+    fn file(&self) -> Vec<u8> {
+        let mut file = vec![0; 133_131];
+        let (pic, pic_len) = (self.picture.as_ptr(), self.picture.len());
+        let written = unsafe { gdp_write_pbm(EF9366, pic, pic_len, file.as_mut_ptr(), file.len()) };
+        expect("the refusal number of the file", written.number.into(), 0);
+        file.truncate(written.value as usize);
+        file
+    }
+    fn show(&mut self, file: &[u8]) {
+        let (pic, pic_len) = (self.picture.as_mut_ptr(), self.picture.len());
+        let read = unsafe { gdp_read_pbm(EF9366, file.as_ptr(), file.len(), pic, pic_len) };
+        expect("the refusal number of reading the file", read.number.into(), 0);
+    }
 }
 
 fn expect(what: &str, found: usize, wanted: usize) {
@@ -95,8 +119,15 @@ fn expect(what: &str, found: usize, wanted: usize) {
     }
 }
 
+fn keep(name: &std::ffi::OsStr, file: &[u8]) {
+    if let Err(why) = std::fs::write(name, file) {
+        eprintln!("host.rs: the picture could not be written to {}: {why}.", name.to_string_lossy());
+        std::process::exit(1)
+    }
+}
+
 fn main() {
-    let fresh = unsafe { gdp_fresh(0) }; // EF9366
+    let fresh = unsafe { gdp_fresh(EF9366) };
     let mut card = Card { state: fresh.state, picture: vec![0; 16384] };
     card.taken(fresh, "a fresh state");
     expect("the first STATUS", card.status(), 0x05);
@@ -110,10 +141,18 @@ fn main() {
     expect("STATUS after the curve", first, 0xC5); // no pen sequence, ready, ready's flag, a flag
     expect("STATUS read again", second, 0x05); // reading clears the flags
     println!("STATUS: {first:02X}, read again {second:02X}");
+    let file = card.file();
+    if let Some(name) = std::env::args_os().nth(1) {
+        keep(&name, &file);
+    }
+    println!("as plain PBM: {} bytes", file.len());
     // From the same start, or ties fall otherwise and dots stay.
     card.go(start.x, start.y);
     card.put(CTRL1, ERASER);
     expect("the eraser's number of cycles", card.curve(), cycles);
     expect("the number of dots left", card.lit(), 0);
     println!("taken away: {cycles} cycles, the picture is dark again");
+    card.show(&file);
+    expect("the number of dots read back", card.lit(), dots);
+    println!("read back: {dots} dots lit");
 }

@@ -1,20 +1,22 @@
 /* The EF9365 / EF9366 for C11 and C++11: link with libgdp.a. `sh tools/archive` makes it for the processor at hand; for
    x86-64 and its System V calling convention it is what `rt staticlib card` makes, under that name (README.md).
 
-   A call takes the state by value and hands back the next one. The library keeps nothing, allocates nothing, has no
-   variables of its own and needs only memset: it is reentrant, from several threads and from interrupts alike.
+   A call of the processor takes the state by value and hands back the next one; the two that write and read a picture
+   as a file have nothing to do with it. The library keeps nothing, allocates nothing, has no variables of its own and needs only memset: it is
+   reentrant, from several threads and from interrupts alike.
 
-   Picture and table belong to the caller and are lent for the time of one call. The table is only read. A picture may
-   not be lent to two calls at once, nor overlap the table. A length is in bytes and is that of the memory lent: any
-   length may be passed, and a wrong one is refused. A null pointer with length 0 is a memory of no bytes, and refused
-   as such; a null pointer with another length, or a length past the memory's end, is the caller's fault. */
+   Each memory belongs to the caller and is lent for the time of one call. One that is `const` is only read: the table,
+   the picture that is written as a file, the file that is read. Any other may not be lent to two calls at once, nor
+   overlap another memory of its call. A length is in bytes and is that of the memory lent: any length may be passed,
+   and a wrong one is refused. A null pointer with length 0 is a memory of no bytes, and refused as such; a null pointer
+   with another length, or a length past the memory's end, is the caller's fault. */
 #ifndef GDP_H
 #define GDP_H
 
 #include <stddef.h>
 #include <stdint.h>
 
-/* The formats of gdp_fresh. */
+/* The formats, for gdp_fresh and the two calls of plain PBM. */
 enum {
     GDP_EF9366 = 0,    /* 512 by 256 dots */
     GDP_FMAT_HIGH = 1, /* EF9365, 512 by 512 */
@@ -29,6 +31,13 @@ enum {
     GDP_FMAT_HIGH_BYTES = 32768,
     GDP_FMAT_LOW_BYTES = 8192,
     GDP_TABLE_BYTES = 480
+};
+
+/* The bytes of a picture's file as gdp_write_pbm writes it. */
+enum {
+    GDP_EF9366_PBM_BYTES = 133131,
+    GDP_FMAT_HIGH_PBM_BYTES = 266251,
+    GDP_FMAT_LOW_PBM_BYTES = 66571
 };
 
 /* The registers' addresses. X and Y have their upper 4 bits at the first address and their lower 8 at the second. */
@@ -48,18 +57,23 @@ enum {
     GDP_YLP = 0xD  /* read only */
 };
 
-/* Refusal numbers. Where several apply, the lowest is given. A refused call has value 0, and state and picture are as
-   handed in. */
+/* Refusal numbers. Where several apply, the lowest is given. A refused call has value 0, and the state and each memory
+   lent are as handed in. */
 enum {
     GDP_ACCEPTED = 0,
-    GDP_BAD_STATE = 1,   /* every call: the state cannot be one, see gdp_state; gdp_fresh: no such format */
-    GDP_BAD_PICTURE = 2, /* gdp_grant, gdp_set_vb: the picture is not of the format's length */
-    GDP_BAD_TABLE = 3,   /* gdp_grant, whatever runs: the table is not 480 bytes */
-    GDP_BAD_ADDRESS = 4, /* gdp_write, gdp_read: address 4, 6, E or F, or above 15 */
-    GDP_READ_ONLY = 5,   /* gdp_write: to C or D */
-    GDP_BUSY = 6,        /* gdp_write: to any other address while a command runs */
-    GDP_TILTED = 7,      /* gdp_write: a character command (20 to 7F, 0A, 0B) while CTRL2 bit 2, tilt, is high */
-    GDP_OFF_SCREEN = 8   /* gdp_lpck: h above 63 or v above 255 */
+    GDP_BAD_STATE = 1,    /* every call with a state: it cannot be one, see gdp_state; gdp_fresh: no such format */
+    GDP_BAD_PICTURE = 2,  /* every call with a picture: it is not of the format's length; gdp_write_pbm, gdp_read_pbm:
+                             or there is no such format */
+    GDP_BAD_TABLE = 3,    /* gdp_grant, whatever runs: the table is not 480 bytes */
+    GDP_BAD_ADDRESS = 4,  /* gdp_write, gdp_read: address 4, 6, E or F, or above 15 */
+    GDP_READ_ONLY = 5,    /* gdp_write: to C or D */
+    GDP_BUSY = 6,         /* gdp_write: to any other address while a command runs */
+    GDP_TILTED = 7,       /* gdp_write: a character command (20 to 7F, 0A, 0B) while CTRL2 bit 2, tilt, is high */
+    GDP_OFF_SCREEN = 8,   /* gdp_lpck: h above 63 or v above 255 */
+    GDP_SHORT_BUFFER = 9, /* gdp_write_pbm: the buffer is shorter than the file */
+    GDP_NO_PBM = 10,      /* gdp_read_pbm: no P1 at the start with white space behind it, or no two numbers after it */
+    GDP_OTHER_SIZE = 11,  /* gdp_read_pbm: the numbers are not the format's width and height */
+    GDP_BAD_DOTS = 12     /* gdp_read_pbm: a byte before the last dot is no dot or white space, or dots are missing */
 };
 
 /* The state. Make it by gdp_fresh and hand on what each call answers; it may be copied, kept and read freely.
@@ -97,6 +111,11 @@ typedef struct gdp_outputs {
     uint8_t msl;    /* MSL0 to 3 */
 } gdp_outputs;
 
+typedef struct gdp_pbm_answer {
+    uint8_t number; /* the refusal number, or 0 */
+    uint32_t value; /* gdp_write_pbm: the bytes written; else 0 */
+} gdp_pbm_answer;
+
 #ifdef __cplusplus
 #define GDP_HOLDS(fact) static_assert(fact, #fact)
 extern "C" {
@@ -128,6 +147,21 @@ gdp_answer gdp_lpck(gdp_state state, uint16_t h, uint16_t v);
 /* The address outputs for the present X and Y. */
 gdp_outputs gdp_address(gdp_state state);
 
+/* Writes the picture as a plain PBM file, Netpbm's P1, which programs that show pictures open: the line P1, the line of
+   width and height with a blank between, then the dots from the top line down and from left to right, 1 lit (which
+   viewers show black) and 0 dark, 64 to a line with nothing between. A line feed ends each line, the last too. The file stands at the start of the
+   buffer, and later bytes stay. */
+gdp_pbm_answer gdp_write_pbm(uint8_t format, const uint8_t *picture, size_t picture_length, uint8_t *buffer,
+                             size_t buffer_length);
+
+/* Reads a plain PBM file into the picture, also one that another program wrote. Its first two bytes are P1. White space
+   stands behind these, behind the width and behind the height, and may stand between any two dots: blanks, tabs, CR and
+   LF, as many as there are, and comments, each from # to the next LF or to the file's end. A number is decimal digits as
+   far as they go, any number of them, and zeros in front count for nothing. What follows the last dot is not looked at.
+   Every dot is looked at before one is written: a fault in the last leaves the whole picture as it was. */
+gdp_pbm_answer gdp_read_pbm(uint8_t format, const uint8_t *file, size_t file_length, uint8_t *picture,
+                            size_t picture_length);
+
 GDP_HOLDS(sizeof(gdp_state) == 16);
 GDP_HOLDS(offsetof(gdp_state, x) == 0);
 GDP_HOLDS(offsetof(gdp_state, y) == 2);
@@ -150,6 +184,9 @@ GDP_HOLDS(sizeof(gdp_outputs) == 4);
 GDP_HOLDS(offsetof(gdp_outputs, low) == 1);
 GDP_HOLDS(offsetof(gdp_outputs, high) == 2);
 GDP_HOLDS(offsetof(gdp_outputs, msl) == 3);
+GDP_HOLDS(sizeof(gdp_pbm_answer) == 8);
+GDP_HOLDS(offsetof(gdp_pbm_answer, number) == 0);
+GDP_HOLDS(offsetof(gdp_pbm_answer, value) == 4);
 #undef GDP_HOLDS
 
 #ifdef __cplusplus

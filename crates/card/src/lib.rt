@@ -5,10 +5,17 @@ ghost use mathlib.Core.Path.{_≡_};
 ghost use Rattle.rules.specs.Calls.{written, readOut, struck, located};
 ghost use Rattle.gdp.specs.Flat.{stateOf};
 ghost use Rattle.gdp.specs.Calls.{answerOf, outputsOf, freshAnswer, Grants, levelOf, Blanks};
+ghost use Rattle.pbm.specs.Calls.{writtenOut, readIn, Leaves};
+ghost use Rattle.card.specs.Numbered.{numbered};
 use gdp::address::Outputs;
+use gdp::bits::format_of;
 use gdp::fresh::fresh_of;
 use gdp::state::Answer;
 use gdp::state::Gdp;
+use pbm::answer::Answer as PbmAnswer;
+use pbm::answer::refused;
+use pbm::read::read_pbm;
+use pbm::write::write_pbm;
 
 // The fresh state of format 0, EF9366, 1, FMAT high, or 2, FMAT low; any other number is refused with 1.
 #[no_mangle]
@@ -59,4 +66,26 @@ pub extern "C" fn gdp_address(state: Gdp) -> Outputs
     ensures { λ r. ⌜ r ≡ outputsOf state (located (stateOf state)) ⌝ }
 {
     state.locate()
+}
+
+// The picture of a format as a plain PBM file. A number of no format is refused with 2: no picture is of its length.
+#[no_mangle]
+pub extern "C" fn gdp_write_pbm(format: u8, pic: &[u8], out: &mut [u8]) -> PbmAnswer
+    ensures { λ r. ⌜ Leaves (numbered writtenOut format (now (pic .entry)) (now (out .entry))) r (now (out .exit)) ⌝ }
+{
+    if format < 3 {
+        return write_pbm(format_of(format), pic, out);
+    }
+    refused(2)
+}
+
+// A plain PBM file read into a picture of a format.
+#[no_mangle]
+pub extern "C" fn gdp_read_pbm(format: u8, file: &[u8], pic: &mut [u8]) -> PbmAnswer
+    ensures { λ r. ⌜ Leaves (numbered readIn format (now (file .entry)) (now (pic .entry))) r (now (pic .exit)) ⌝ }
+{
+    if format < 3 {
+        return read_pbm(format_of(format), file, pic);
+    }
+    refused(2)
 }

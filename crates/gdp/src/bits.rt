@@ -61,7 +61,7 @@ pub(crate) fn is_stray_work(modes: u8, vb: bool) -> bool
     false
 }
 
-pub(crate) fn format_of(modes: u8) -> Format
+pub fn format_of(modes: u8) -> Format
     ensures { λ r. ⌜ r ≡ formatAt (formatIn modes) ⌝ }
 {
     match modes % 8 {

@@ -2,7 +2,7 @@
 // Proved: each call gives, for every sixteen bytes and every lent memory, exactly what the definitions of crate rules give for the
 // state that the bytes stand for, and its statement allows no other result. No call requires anything. Assumes nothing.
 pub mod address;
-mod bits;
+pub mod bits;
 pub mod blanking;
 mod check;
 mod commands;

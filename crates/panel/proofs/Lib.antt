@@ -6,6 +6,7 @@ pub mod Letters
 pub mod Steps
 pub mod Playing
 pub mod Whole
+pub mod Pictures
 mod Readings
 pub mod Longest
 pub mod Settled

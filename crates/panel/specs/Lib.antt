@@ -1,5 +1,6 @@
 pub mod Record
 pub mod Answer
 pub mod Panel
+pub mod Screen
 pub mod Tables
 pub mod Working

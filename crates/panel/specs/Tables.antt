@@ -2,5 +2,6 @@
 pub mod Records
 pub mod Outputs
 pub mod Example
+pub mod Screens
 pub mod Readings
 pub mod Computed

@@ -9,13 +9,13 @@ use crate::run::play_lines;
 // A buffer of this length holds every output: G, 11 bytes for a line, 10 for a dot, and room for the last line in hand.
 pub const LONGEST: usize = 2031648;
 
-fn dark_picture() -> [u8; 16384]
+pub(crate) fn dark_picture() -> [u8; 16384]
     ensures { λ r. ⌜ r ≡ dark ⌝ }
 {
     [0u8; 16384]
 }
 
-fn blank_table() -> [u8; 480]
+pub(crate) fn blank_table() -> [u8; 480]
     ensures { λ r. ⌜ r ≡ glyphs ⌝ }
 {
     [0u8; 480]

@@ -4,7 +4,7 @@ ghost use Prim.Native.Nat.{_<_};
 ghost use Rattle.text.specs.Numbers.{digitValue, hexDigit};
 
 // The value of a digit, 0 to 9 and A to F, capitals; 16 of any other byte.
-pub(crate) fn digit_value(b: u8) -> u8
+pub fn digit_value(b: u8) -> u8
     ensures { λ r. ⌜ r ≡ digitValue b ⌝ }
 {
     if (48 <= b) & (b <= 57) {

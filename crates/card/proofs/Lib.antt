@@ -1,0 +1,3 @@
+pub mod Settled
+mod Formats
+mod Readings

@@ -1,0 +1,15 @@
+pub mod Laws
+pub mod Settled
+mod Answers
+mod Eights
+mod Files
+mod Gaps
+mod Headings
+mod Opened
+mod Passing
+mod Readings
+mod Showing
+mod Shown
+mod Taking
+mod Wholes
+mod Written

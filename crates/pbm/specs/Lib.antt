@@ -1,0 +1,6 @@
+pub mod File
+pub mod Contents
+pub mod Calls
+pub mod Spaced
+pub mod Tables
+pub mod Working
