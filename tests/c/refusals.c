@@ -1,26 +1,9 @@
-/* Every refusal number, from every call that can give it, through include/gdp.h. Held: the number is the lowest that
-   applies; the value is 0, and state and lent memory are as handed in. Null pointers with length 0 are among the
-   memories. And what is not in use is not looked at: a state with left-overs is answered as the same without them,
-   only that a refusal hands them back. What answers otherwise is told, and the exit status is then 1. tools/hosts
-   runs it. */
-#include "gdp.h"
-
-#include <stdio.h>
-#include <stdlib.h>
-#include <string.h>
-
-static unsigned passed, failed;
-
-static void judge(int right, const char *call, unsigned number, unsigned wanted) {
-    if (right && number == wanted) {
-        passed++;
-        return;
-    }
-    failed++;
-    if (failed <= 20) /* one fault makes many */
-        fprintf(stderr, "refusals.c: %s gave %u and should give %u%s.\n", call, number, wanted,
-                right ? "" : "; value, state or lent memory are not as they should be");
-}
+/* Every refusal number, from every call that can give it, through include/gdp.h; the two calls of plain PBM have pbm.c.
+   Held: the number is the lowest that applies; the value is 0, and state and lent memory are as handed in. Null pointers
+   with length 0 are among the memories. And what is not in use is not looked at: a state with left-overs is answered as
+   the same without them, only that a refusal hands them back. What answers otherwise is told, and the exit status is
+   then 1. tools/hosts runs it. */
+#include "judge.h"
 
 /* An accepted answer is held to its number alone: what it draws is tested elsewhere. */
 static gdp_state answered(const char *call, gdp_state handed, gdp_answer a, int unchanged, unsigned wanted) {
@@ -29,29 +12,10 @@ static gdp_state answered(const char *call, gdp_state handed, gdp_answer a, int 
     return a.state;
 }
 
-/* Memory of exactly so many bytes, so that a checker sees any step past its end; none at all is the null pointer. */
-static uint8_t *lent(size_t length) {
-    uint8_t *bytes = length ? malloc(length) : NULL;
-    if (length && !bytes) {
-        fprintf(stderr, "refusals.c: there is no memory.\n");
-        exit(1);
-    }
-    for (size_t i = 0; i < length; i++)
-        bytes[i] = (uint8_t)(37 * i + 11);
-    return bytes;
-}
-
-static int as_lent(const uint8_t *bytes, size_t length) {
-    for (size_t i = 0; i < length; i++)
-        if (bytes[i] != (uint8_t)(37 * i + 11))
-            return 0;
-    return 1;
-}
-
 static gdp_state grant(gdp_state s, size_t length, size_t table_length, unsigned wanted) {
     uint8_t *picture = lent(length), *table = lent(table_length);
     gdp_answer a = gdp_grant(s, 65535, picture, length, table, table_length);
-    int unchanged = as_lent(picture, length) && as_lent(table, table_length);
+    int unchanged = as_lent(picture, 0, length) && as_lent(table, 0, table_length);
     free(picture);
     free(table);
     return answered("gdp_grant", s, a, unchanged, wanted);
@@ -60,7 +24,7 @@ static gdp_state grant(gdp_state s, size_t length, size_t table_length, unsigned
 static gdp_state set_vb(gdp_state s, uint8_t level, size_t length, unsigned wanted) {
     uint8_t *picture = lent(length);
     gdp_answer a = gdp_set_vb(s, level, picture, length);
-    int unchanged = as_lent(picture, length);
+    int unchanged = as_lent(picture, 0, length);
     free(picture);
     return answered("gdp_set_vb", s, a, unchanged, wanted);
 }
@@ -275,6 +239,5 @@ int main(void) {
             left_overs(set_vb(high, 0, lengths[f], GDP_ACCEPTED), lengths[f]);
         }
     }
-    printf("%u calls answered as they should, %u not\n", passed, failed);
-    return failed > 0;
+    return judged();
 }

@@ -2,7 +2,7 @@
    lowest byte that it wrote looked up. Counted from the caller's stack pointer, so arguments and return address are in
    it, and the answer, which lies in the caller's own frame, is not. Prints a line for each call; tools/size runs it.
    The inputs reach each branch that a call can take: every command in every format, line types, tilt and turned,
-   characters of two sizes, cyclic or not, all levels and frames, and refusals. */
+   characters of two sizes, cyclic or not, all levels and frames, files with and without white space, and refusals. */
 #include "gdp.h"
 
 #include <stdio.h>
@@ -10,12 +10,12 @@
 #include <string.h>
 
 enum { ROOM = 1024 };
-enum { FRESH, WRITE, READ, GRANT, SET_VB, LPCK, ADDRESS, CALLS };
-static const char *const names[CALLS] = {"gdp_fresh",  "gdp_write", "gdp_read",   "gdp_grant",
-                                         "gdp_set_vb", "gdp_lpck",  "gdp_address"};
+enum { FRESH, WRITE, READ, GRANT, SET_VB, LPCK, ADDRESS, WRITE_PBM, READ_PBM, CALLS };
+static const char *const names[CALLS] = {"gdp_fresh", "gdp_write",   "gdp_read",      "gdp_grant",   "gdp_set_vb",
+                                         "gdp_lpck",  "gdp_address", "gdp_write_pbm", "gdp_read_pbm"};
 static size_t deepest[CALLS];
 static unsigned long made[CALLS];
-static uint8_t picture[GDP_FMAT_HIGH_BYTES], table[GDP_TABLE_BYTES];
+static uint8_t picture[GDP_FMAT_HIGH_BYTES], table[GDP_TABLE_BYTES], file[4 * GDP_FMAT_HIGH_PBM_BYTES];
 static size_t length;
 
 static inline uintptr_t stack_pointer(void) {
@@ -56,9 +56,15 @@ __attribute__((noinline)) static gdp_state measured(uint64_t colour, int call, g
     case LPCK:
         a = gdp_lpck(s, (uint16_t)first, (uint16_t)second);
         break;
-    default:
+    case ADDRESS:
         a.number = gdp_address(s).number;
         a.state = s;
+        break;
+    case WRITE_PBM:
+        a.number = gdp_write_pbm((uint8_t)first, picture, length, file, second).number;
+        break;
+    default:
+        a.number = gdp_read_pbm((uint8_t)first, file, second, picture, length).number;
     }
     size_t below = 0;
     while (below < ROOM && ((volatile uint8_t *)room)[below] == (uint8_t)colour)
@@ -124,6 +130,38 @@ static void format(unsigned number, size_t bytes) {
                 }
 }
 
+/* Reads a file of this beginning and of dots with something between; whole, cut, and as one of another format. */
+static void reading(unsigned number, const char *head, const char *between) {
+    size_t end = strlen(head), gap = strlen(between);
+    memcpy(file, head, end);
+    for (size_t i = 0; i < 8 * length; i++) {
+        file[end++] = (uint8_t)('0' + i / 3 % 2);
+        memcpy(file + end, between, gap);
+        end += gap;
+    }
+    const size_t lengths[] = {0, 2, 6, 8, strlen(head), end / 2, end};
+    for (unsigned i = 0; i < sizeof lengths / sizeof *lengths; i++)
+        call(READ_PBM, (gdp_state){0}, number, (unsigned)lengths[i]);
+    call(READ_PBM, (gdp_state){0}, (number + 1) % 3, (unsigned)end);
+    call(READ_PBM, (gdp_state){0}, 3, (unsigned)end);
+}
+
+static void files(unsigned number, size_t bytes, const char *size) {
+    static const char *const between[] = {"", " ", "\r\n", "#\n"};
+    char head[64];
+    length = bytes;
+    for (unsigned i = 0; i < 4; i++) {
+        snprintf(head, sizeof head, "P1%s\n%s\n", i % 2 ? " # a comment" : "", size);
+        reading(number, head, between[i]);
+        snprintf(head, sizeof head, "P1\n000%s\nx", size);
+        reading(number, head, between[i]);
+    }
+    static const unsigned buffers[] = {0, 11, sizeof file};
+    for (unsigned i = 0; i < 3; i++)
+        for (unsigned f = 0; f < 4; f++)
+            call(WRITE_PBM, (gdp_state){0}, f, buffers[i]);
+}
+
 int main(void) {
     gdp_state none;
     memset(&none, 255, sizeof none);
@@ -134,12 +172,15 @@ int main(void) {
     format(GDP_EF9366, GDP_EF9366_BYTES);
     format(GDP_FMAT_HIGH, GDP_FMAT_HIGH_BYTES);
     format(GDP_FMAT_LOW, GDP_FMAT_LOW_BYTES);
+    files(GDP_EF9366, GDP_EF9366_BYTES, "512 256");
+    files(GDP_FMAT_HIGH, GDP_FMAT_HIGH_BYTES, "512 512");
+    files(GDP_FMAT_LOW, GDP_FMAT_LOW_BYTES, "256 256");
     for (int i = 0; i < CALLS; i++) {
         if (deepest[i] == ROOM) {
             fprintf(stderr, "stack.c: %s goes below the paint: make ROOM larger.\n", names[i]);
             return 1;
         }
-        printf("%-12s %5zu bytes at most in %lu calls\n", names[i], deepest[i], made[i]);
+        printf("%-13s %5zu bytes at most in %lu calls\n", names[i], deepest[i], made[i]);
     }
     return 0;
 }

@@ -4,6 +4,7 @@
 /* No header either: these are the compiler's own names. */
 typedef __UINT8_TYPE__ uint8_t;
 typedef __UINT16_TYPE__ uint16_t;
+typedef __UINT32_TYPE__ uint32_t;
 typedef __UINT64_TYPE__ uint64_t;
 typedef __SIZE_TYPE__ size_t;
 
@@ -19,7 +20,11 @@ typedef struct {
 typedef struct {
     uint8_t number, low, high, msl;
 } FlatAddress;
-_Static_assert(sizeof(Flat) == 16 && sizeof(FlatAnswer) == 20 && sizeof(FlatAddress) == 4, "layout");
+typedef struct {
+    uint8_t number;
+    uint32_t value;
+} FlatPbm;
+_Static_assert(sizeof(Flat) == 16 && sizeof(FlatAnswer) == 20 && sizeof(FlatAddress) == 4 && sizeof(FlatPbm) == 8, "layout");
 
 FlatAnswer gdp_fresh(uint8_t format);
 FlatAnswer gdp_write(Flat state, uint8_t address, uint8_t value);
@@ -28,18 +33,24 @@ FlatAnswer gdp_grant(Flat state, uint16_t n, uint8_t *pic, size_t pic_len, const
 FlatAnswer gdp_set_vb(Flat state, uint8_t level, uint8_t *pic, size_t pic_len);
 FlatAnswer gdp_lpck(Flat state, uint16_t h, uint16_t v);
 FlatAddress gdp_address(Flat state);
+FlatPbm gdp_write_pbm(uint8_t format, const uint8_t *picture, size_t picture_length, uint8_t *buffer, size_t buffer_length);
+FlatPbm gdp_read_pbm(uint8_t format, const uint8_t *file, size_t file_length, uint8_t *picture, size_t picture_length);
 
 /* The same order and places as in src/bridge.rs. */
-enum { FRESH, WRITE, READ, GRANT, SET_VB, LPCK, ADDRESS };
+enum { FRESH, WRITE, READ, GRANT, SET_VB, LPCK, ADDRESS, WRITE_PBM, READ_PBM };
+typedef struct {
+    uint64_t at, length; /* a place in the file */
+} Loan;
 typedef struct {
     uint8_t kind, first, second, unused;
     uint16_t n, m;
-    uint64_t pic, pic_len, table, table_len; /* places in the file */
+    Loan picture, table, pbm;
     Flat state;
     FlatAnswer answer;
     FlatAddress lines;
+    FlatPbm pbm_answer;
 } Turn;
-_Static_assert(sizeof(Turn) == 80, "layout");
+_Static_assert(sizeof(Turn) == 104, "layout");
 
 enum { SYS_READ = 0, SYS_WRITE = 1, SYS_OPEN = 2, SYS_MMAP = 9, SYS_EXIT = 60 };
 
@@ -64,6 +75,7 @@ void *memset(void *to, int byte, size_t count) {
 
 static void take(uint8_t *file) {
     Turn *turn = (Turn *)file;
+    uint8_t *picture = file + turn->picture.at, *table = file + turn->table.at, *pbm = file + turn->pbm.at;
     switch (turn->kind) {
     case FRESH:
         turn->answer = gdp_fresh(turn->first);
@@ -75,16 +87,22 @@ static void take(uint8_t *file) {
         turn->answer = gdp_read(turn->state, turn->first);
         break;
     case GRANT:
-        turn->answer = gdp_grant(turn->state, turn->n, file + turn->pic, turn->pic_len, file + turn->table, turn->table_len);
+        turn->answer = gdp_grant(turn->state, turn->n, picture, turn->picture.length, table, turn->table.length);
         break;
     case SET_VB:
-        turn->answer = gdp_set_vb(turn->state, turn->first, file + turn->pic, turn->pic_len);
+        turn->answer = gdp_set_vb(turn->state, turn->first, picture, turn->picture.length);
         break;
     case LPCK:
         turn->answer = gdp_lpck(turn->state, turn->n, turn->m);
         break;
-    default:
+    case ADDRESS:
         turn->lines = gdp_address(turn->state);
+        break;
+    case WRITE_PBM:
+        turn->pbm_answer = gdp_write_pbm(turn->first, picture, turn->picture.length, pbm, turn->pbm.length);
+        break;
+    default:
+        turn->pbm_answer = gdp_read_pbm(turn->first, pbm, turn->pbm.length, picture, turn->picture.length);
     }
 }
 

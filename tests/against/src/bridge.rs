@@ -2,8 +2,9 @@
 //! pipe hands the turn over, so the two never touch the file at once.
 
 use crate::card::Card;
-use crate::flat::{Flat, FlatAddress, FlatAnswer, ALL_ONES};
-use crate::lent::Part;
+use crate::flat::{Flat, FlatAddress, FlatAnswer, FlatPbm, ALL_ONES};
+use crate::lent::{Part, GUARD};
+use crate::scene::{LONGEST_FILE, LONGEST_PICTURE, LONGEST_TABLE};
 use crate::shared::Shared;
 use std::cell::RefCell;
 use std::io::{Read, Write};
@@ -17,6 +18,8 @@ const GRANT: u8 = 3;
 const SET_VB: u8 = 4;
 const LPCK: u8 = 5;
 const ADDRESS: u8 = 6;
+const WRITE_PBM: u8 = 7;
+const READ_PBM: u8 = 8;
 
 /// The start of the file, laid out as in bridge/bridge.c.
 #[repr(C)]
@@ -28,21 +31,37 @@ struct Turn {
     unused: u8,
     n: u16,
     m: u16,
-    pic: u64,
-    pic_len: u64,
-    table: u64,
-    table_len: u64,
+    picture: Loan,
+    table: Loan,
+    pbm: Loan,
     state: Flat,
     answer: FlatAnswer,
     lines: FlatAddress,
+    pbm_answer: FlatPbm,
 }
 
-const _: () = assert!(size_of::<Turn>() == 80);
+/// A lent part's place in the file, and its length.
+#[repr(C)]
+#[derive(Clone, Copy)]
+struct Loan {
+    at: u64,
+    length: u64,
+}
+
+const NOTHING: Loan = Loan { at: 0, length: 0 };
+
+const _: () = assert!(size_of::<Turn>() == 104);
 
 // Where the lent memories lie in the file, guards and all.
 const PICTURE: usize = 4_096;
-const TABLE: usize = PICTURE + 65_536;
-const LENGTH: usize = TABLE + 4_096;
+const TABLE: usize = PICTURE + room(LONGEST_PICTURE);
+const PBM: usize = TABLE + room(LONGEST_TABLE);
+const LENGTH: usize = PBM + room(LONGEST_FILE);
+
+/// In whole pages.
+const fn room(longest: usize) -> usize {
+    (GUARD + longest + GUARD).next_multiple_of(4_096)
+}
 
 pub struct Library(RefCell<Bridge>);
 
@@ -83,23 +102,11 @@ impl Bridge {
         self.file.get(0)
     }
 
-    fn with_parts(&mut self, turn: Turn, picture: Part, table: Option<Part>) -> Turn {
-        self.file.write(PICTURE, picture.whole);
-        if let Some(table) = &table {
-            self.file.write(TABLE, table.whole);
-        }
-        let turn = Turn {
-            pic: (PICTURE + picture.start) as u64,
-            pic_len: picture.length as u64,
-            table: (TABLE + table.as_ref().map_or(0, |table| table.start)) as u64,
-            table_len: table.as_ref().map_or(0, |table| table.length) as u64,
-            ..turn
-        };
+    /// The same with memories to lend, each copied to its place in the file and back, guards and all.
+    fn take_with<const N: usize>(&mut self, turn: Turn, lent: [(usize, Part); N]) -> Turn {
+        lent.iter().for_each(|(place, part)| self.file.write(*place, part.whole));
         let after = self.take(turn);
-        self.file.read(PICTURE, picture.whole);
-        if let Some(table) = table {
-            self.file.read(TABLE, table.whole);
-        }
+        lent.into_iter().for_each(|(place, part)| self.file.read(place, part.whole));
         after
     }
 }
@@ -120,15 +127,19 @@ fn turn(kind: u8, state: Flat) -> Turn {
         unused: 0,
         n: 0,
         m: 0,
-        pic: 0,
-        pic_len: 0,
-        table: 0,
-        table_len: 0,
+        picture: NOTHING,
+        table: NOTHING,
+        pbm: NOTHING,
         state,
         // Bytes that no call answers, so that an answer left out shows.
         answer: FlatAnswer { number: 0xEE, value: 0xEEEE, state: ALL_ONES },
         lines: FlatAddress { number: 0xEE, low: 0xEE, high: 0xEE, msl: 0xEE },
+        pbm_answer: FlatPbm { number: 0xEE, value: 0xEEEE_EEEE },
     }
+}
+
+fn loan(place: usize, part: &Part) -> Loan {
+    Loan { at: (place + part.start) as u64, length: part.length as u64 }
 }
 
 impl Card for Library {
@@ -147,13 +158,14 @@ impl Card for Library {
     }
 
     fn grant(&self, state: Flat, n: u16, picture: Part, table: Part) -> FlatAnswer {
-        let turn = Turn { n, ..turn(GRANT, state) };
-        self.0.borrow_mut().with_parts(turn, picture, Some(table)).answer
+        let lent = (loan(PICTURE, &picture), loan(TABLE, &table));
+        let turn = Turn { n, picture: lent.0, table: lent.1, ..turn(GRANT, state) };
+        self.0.borrow_mut().take_with(turn, [(PICTURE, picture), (TABLE, table)]).answer
     }
 
     fn set_vb(&self, state: Flat, level: u8, picture: Part) -> FlatAnswer {
-        let turn = Turn { first: level, ..turn(SET_VB, state) };
-        self.0.borrow_mut().with_parts(turn, picture, None).answer
+        let turn = Turn { first: level, picture: loan(PICTURE, &picture), ..turn(SET_VB, state) };
+        self.0.borrow_mut().take_with(turn, [(PICTURE, picture)]).answer
     }
 
     fn lpck(&self, state: Flat, h: u16, v: u16) -> FlatAnswer {
@@ -162,5 +174,20 @@ impl Card for Library {
 
     fn address(&self, state: Flat) -> FlatAddress {
         self.0.borrow_mut().take(turn(ADDRESS, state)).lines
+    }
+    fn write_pbm(&self, format: u8, picture: Part, buffer: Part) -> FlatPbm {
+        self.pbm(WRITE_PBM, format, picture, buffer)
+    }
+
+    fn read_pbm(&self, format: u8, file: Part, picture: Part) -> FlatPbm {
+        self.pbm(READ_PBM, format, picture, file)
+    }
+}
+
+impl Library {
+    fn pbm(&self, kind: u8, format: u8, picture: Part, pbm: Part) -> FlatPbm {
+        let lent = (loan(PICTURE, &picture), loan(PBM, &pbm));
+        let turn = Turn { first: format, picture: lent.0, pbm: lent.1, ..turn(kind, ALL_ONES) };
+        self.0.borrow_mut().take_with(turn, [(PICTURE, picture), (PBM, pbm)]).pbm_answer
     }
 }

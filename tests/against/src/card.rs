@@ -1,6 +1,6 @@
 //! The calls of a card in flat form, whoever answers them.
 
-use crate::flat::{Flat, FlatAddress, FlatAnswer};
+use crate::flat::{Flat, FlatAddress, FlatAnswer, FlatPbm};
 use crate::lent::Part;
 
 pub trait Card {
@@ -12,4 +12,6 @@ pub trait Card {
     fn set_vb(&self, state: Flat, level: u8, picture: Part) -> FlatAnswer;
     fn lpck(&self, state: Flat, h: u16, v: u16) -> FlatAnswer;
     fn address(&self, state: Flat) -> FlatAddress;
+    fn write_pbm(&self, format: u8, picture: Part, buffer: Part) -> FlatPbm;
+    fn read_pbm(&self, format: u8, file: Part, picture: Part) -> FlatPbm;
 }

@@ -2,17 +2,17 @@
 
 use crate::call::Call;
 use crate::card::Card;
-use crate::flat::Flat;
-use crate::scene::{Outcome, Scene, LONGEST_PICTURE, LONGEST_TABLE};
+use crate::flat::{Flat, ALL_ONES};
+use crate::memory::{byte, memory, number, spelled};
+use crate::scene::{Memories, Outcome, Scene, LONGEST_FILE, LONGEST_PICTURE, LONGEST_TABLE};
 use std::fmt::{Display, Formatter, Result as Written};
 
-/// `picture` and `table` are what the call lends, so they are as long as the call says.
+/// `lent` is what the call lends, so its memories are as long as the call says. A call that knows no state has ALL_ONES.
 #[derive(Clone, PartialEq, Eq, Debug)]
 pub struct Case {
     pub state: Flat,
     pub call: Call,
-    pub picture: Vec<u8>,
-    pub table: Vec<u8>,
+    pub lent: Memories,
     pub promise: Option<Promise>,
 }
 
@@ -40,7 +40,7 @@ impl Promise {
 
 impl Case {
     pub fn play(&self, library: &impl Card, model: &impl Card) -> Outcome {
-        Scene::holding(&self.picture, &self.table).play(library, model, self.state, self.call)
+        Scene::holding(&self.lent).play(library, model, self.state, self.call)
     }
 
     /// Both cards leave the same, and what was known of the state holds.
@@ -56,47 +56,61 @@ impl Case {
             _ => (words, None),
         };
         let words: Vec<&str> = words.iter().map(String::as_str).collect();
-        let (state, call, picture, table) = match words[..] {
-            ["fresh", format] => ("", Call::Fresh { format: byte(format)? }, "0", "0"),
+        let none = Memories::default;
+        let (state, call, lent) = match words[..] {
+            ["fresh", format] => (ALL_ONES, Call::Fresh { format: byte(format)? }, none()),
             ["write", state, address, value] => {
-                (state, Call::Write { address: byte(address)?, value: byte(value)? }, "0", "0")
+                (flat(state)?, Call::Write { address: byte(address)?, value: byte(value)? }, none())
             }
-            ["read", state, address] => (state, Call::Read { address: byte(address)? }, "0", "0"),
-            ["grant", state, n, picture, table] => {
-                (state, Call::Grant { n: word(n)?, picture: 0, table: 0 }, picture, table)
+            ["read", state, address] => (flat(state)?, Call::Read { address: byte(address)? }, none()),
+            ["grant", state, n, pic, listed] => {
+                let lent = Memories { picture: picture(pic)?, table: table(listed)?, ..none() };
+                (flat(state)?, Call::Grant { n: word(n)?, picture: 0, table: 0 }, lent)
             }
-            ["vb", state, level, picture] => {
-                (state, Call::SetVb { level: byte(level)?, picture: 0 }, picture, "0")
+            ["vb", state, level, pic] => {
+                let lent = Memories { picture: picture(pic)?, ..none() };
+                (flat(state)?, Call::SetVb { level: byte(level)?, picture: 0 }, lent)
             }
-            ["lpck", state, h, v] => (state, Call::Lpck { h: word(h)?, v: word(v)? }, "0", "0"),
-            ["address", state] => (state, Call::Address, "0", "0"),
+            ["lpck", state, h, v] => (flat(state)?, Call::Lpck { h: word(h)?, v: word(v)? }, none()),
+            ["address", state] => (flat(state)?, Call::Address, none()),
+            ["write-pbm", format, pic, buffer] => {
+                let lent = Memories { picture: picture(pic)?, file: file(buffer)?, ..none() };
+                (ALL_ONES, Call::WritePbm { format: byte(format)?, picture: 0, buffer: 0 }, lent)
+            }
+            ["read-pbm", format, pbm, pic] => {
+                let lent = Memories { picture: picture(pic)?, file: file(pbm)?, ..none() };
+                (ALL_ONES, Call::ReadPbm { format: byte(format)?, file: 0, picture: 0 }, lent)
+            }
             _ => return Err(USAGE.to_string()),
         };
-        let state = if state.is_empty() { crate::flat::ALL_ONES } else { flat(state)? };
-        let case = Case { state, call, picture: Vec::new(), table: Vec::new(), promise };
-        Ok(case.lending(memory(picture, LONGEST_PICTURE)?, memory(table, LONGEST_TABLE)?))
+        Ok(Case { state, call, lent: none(), promise }.lending(lent))
     }
 
     /// The same call with other memories.
-    pub fn lending(self, picture: Vec<u8>, table: Vec<u8>) -> Case {
+    pub fn lending(self, lent: Memories) -> Case {
+        let Memories { picture, table, file } = &lent;
+        let (picture, table, file) = (picture.len(), table.len(), file.len());
         let call = match self.call {
-            Call::Grant { n, .. } => Call::Grant { n, picture: picture.len(), table: table.len() },
-            Call::SetVb { level, .. } => Call::SetVb { level, picture: picture.len() },
+            Call::Grant { n, .. } => Call::Grant { n, picture, table },
+            Call::SetVb { level, .. } => Call::SetVb { level, picture },
+            Call::WritePbm { format, .. } => Call::WritePbm { format, picture, buffer: file },
+            Call::ReadPbm { format, .. } => Call::ReadPbm { format, file, picture },
             other => other,
         };
-        Case { call, picture, table, ..self }
+        Case { call, lent, ..self }
     }
 }
 
 pub const USAGE: &str = "Give one call: fresh FORMAT, write STATE ADDRESS VALUE, read STATE ADDRESS, \
-     grant STATE N PICTURE TABLE, vb STATE LEVEL PICTURE, lpck STATE H V or address STATE. STATE is the \
-     sixteen bytes in hex. FORMAT, ADDRESS, VALUE and LEVEL are bytes in hex, N, H and V decimal. A memory is its \
-     length and, where bytes are not 00, their places and values: 480:165=01,166=80.";
+     grant STATE N PICTURE TABLE, vb STATE LEVEL PICTURE, lpck STATE H V, address STATE, \
+     write-pbm FORMAT PICTURE BUFFER or read-pbm FORMAT FILE PICTURE. STATE is the sixteen bytes in hex. FORMAT, \
+     ADDRESS, VALUE and LEVEL are bytes in hex, N, H and V decimal. A memory is its length and, where bytes are \
+     not 00, places with the bytes from there on, as often as a number behind * says: 480:165=0180,200=FF*9.";
 
 impl Display for Case {
     fn fmt(&self, out: &mut Formatter) -> Written {
         let state: String = self.state.bytes().iter().map(|byte| format!("{byte:02X}")).collect();
-        let (picture, table) = (&self.picture, &self.table);
+        let Memories { picture, table, file } = &self.lent;
         match self.call {
             Call::Fresh { format } => write!(out, "fresh {format:02X}")?,
             Call::Write { address, value } => write!(out, "write {state} {address:02X} {value:02X}")?,
@@ -107,34 +121,18 @@ impl Display for Case {
             Call::SetVb { level, .. } => write!(out, "vb {state} {level:02X} {}", spelled(picture))?,
             Call::Lpck { h, v } => write!(out, "lpck {state} {h} {v}")?,
             Call::Address => write!(out, "address {state}")?,
+            Call::WritePbm { format, .. } => {
+                write!(out, "write-pbm {format:02X} {} {}", spelled(picture), spelled(file))?
+            }
+            Call::ReadPbm { format, .. } => {
+                write!(out, "read-pbm {format:02X} {} {}", spelled(file), spelled(picture))?
+            }
         }
         match self.promise {
             Some(promise) => write!(out, " {}", promise.word()),
             None => Ok(()),
         }
     }
-}
-
-fn spelled(memory: &[u8]) -> String {
-    let lit = memory.iter().enumerate().filter(|(_, byte)| **byte != 0);
-    let bytes: Vec<String> = lit.map(|(place, byte)| format!("{place}={byte:02X}")).collect();
-    let colon = if bytes.is_empty() { "" } else { ":" };
-    format!("{}{colon}{}", memory.len(), bytes.join(","))
-}
-
-fn memory(text: &str, longest: usize) -> Result<Vec<u8>, String> {
-    let (length, bytes) = text.split_once(':').unwrap_or((text, ""));
-    let length: usize = number(length)?;
-    if length > longest {
-        return Err(format!("A memory of {length} bytes is longer than {longest}, the longest lent here."));
-    }
-    let mut memory = vec![0; length];
-    for entry in bytes.split(',').filter(|entry| !entry.is_empty()) {
-        let (place, value) = entry.split_once('=').ok_or_else(|| format!("'{entry}' is no PLACE=BYTE."))?;
-        let place: usize = number(place)?;
-        *memory.get_mut(place).ok_or_else(|| format!("Byte {place} lies past {length}."))? = byte(value)?;
-    }
-    Ok(memory)
 }
 
 fn flat(text: &str) -> Result<Flat, String> {
@@ -148,14 +146,18 @@ fn flat(text: &str) -> Result<Flat, String> {
     Ok(Flat::of(bytes))
 }
 
-fn byte(text: &str) -> Result<u8, String> {
-    u8::from_str_radix(text, 16).map_err(|_| format!("'{text}' is not a byte in hex."))
+fn picture(text: &str) -> Result<Vec<u8>, String> {
+    memory(text, LONGEST_PICTURE)
+}
+
+fn table(text: &str) -> Result<Vec<u8>, String> {
+    memory(text, LONGEST_TABLE)
+}
+
+fn file(text: &str) -> Result<Vec<u8>, String> {
+    memory(text, LONGEST_FILE)
 }
 
 fn word(text: &str) -> Result<u16, String> {
     number(text)
-}
-
-fn number<T: std::str::FromStr>(text: &str) -> Result<T, String> {
-    text.parse().map_err(|_| format!("'{text}' is not a number, or too large for its place."))
 }

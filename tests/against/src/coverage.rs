@@ -1,17 +1,18 @@
 //! The finer counts of a run: single codes and addresses, formats, lengths lent, sizes of grants, the moments of VB
-//! calls and LPCK edges, and what calls met left-overs.
+//! calls and LPCK edges, what calls met left-overs, and PBM.
 
-use crate::call::{Call, KINDS};
+use crate::call::{Call, KINDS, KINDS_OF_CARD};
 use crate::convert::{format_number, has_left_overs, state_of};
 use crate::draw::arguments::{bytes, TABLE_BYTES};
 use crate::draw::count;
 use crate::draw::left_over::{self, Doing};
 use crate::draw::single::Known;
 use crate::flat::Flat;
+use crate::pbm_coverage::PbmCoverage;
 use second::{Pen, State, Work};
 
 const LENGTHS: [&str; 4] = ["the right length", "no length", "a shorter one", "a longer one"];
-const FORMATS: [&str; 3] = ["EF9366", "FMAT high", "FMAT low"];
+pub const FORMATS: [&str; 3] = ["EF9366", "FMAT high", "FMAT low"];
 const WORKS: [&str; 4] = ["idle", "stepping", "a clear waiting", "a clear in its frame"];
 const PENS: [&str; 3] = ["no pen sequence", "the pen waiting", "the pen in its frame"];
 const LEVELS: [&str; 2] = ["low", "high"];
@@ -34,10 +35,11 @@ pub struct Coverage {
     blankings: [[u64; 2]; MOMENTS],
     edges: [u64; MOMENTS],
     /// Accepted beside each kind of left-over, by the kind of call and by VB.
-    left_over_calls: [[u64; KINDS.len()]; left_over::KINDS.len()],
+    left_over_calls: [[u64; KINDS_OF_CARD]; left_over::KINDS.len()],
     left_over_levels: [[u64; 2]; left_over::KINDS.len()],
     /// Beside left-overs of any kind, by number.
     left_over_numbers: [u64; 256],
+    pbm: PbmCoverage,
 }
 
 /// Of what runs, the pen's sequence and VB.
@@ -56,15 +58,17 @@ impl Default for Coverage {
             parts: [0; PARTS],
             blankings: [[0; 2]; MOMENTS],
             edges: [0; MOMENTS],
-            left_over_calls: [[0; KINDS.len()]; left_over::KINDS.len()],
+            left_over_calls: [[0; KINDS_OF_CARD]; left_over::KINDS.len()],
             left_over_levels: [[0; 2]; left_over::KINDS.len()],
             left_over_numbers: [0; 256],
+            pbm: PbmCoverage::default(),
         }
     }
 }
 
 impl Coverage {
     pub fn count(&mut self, flat: &Flat, call: &Call, number: u8, known: Known) {
+        self.pbm.count(call, number, known);
         if has_left_overs(flat) {
             self.left_over_numbers[usize::from(number)] += 1;
         }
@@ -144,6 +148,7 @@ impl Coverage {
             }
         }
         self.left_over_rows(&mut add);
+        rows.extend(self.pbm.rows());
         rows
     }
 

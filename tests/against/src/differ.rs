@@ -6,7 +6,7 @@ use crate::case::{Case, Promise};
 use crate::convert::{flattened, state_of};
 use crate::difference::Difference;
 use crate::draw::single::{self, Known};
-use crate::draw::{run, states};
+use crate::draw::{pbm, run, states};
 use crate::flat::{Flat, ALL_ONES};
 use crate::random::Random;
 use crate::scene::{Outcome, Scene};
@@ -16,6 +16,8 @@ use crate::tally::Tally;
 const RUN_LENGTH: u64 = 400;
 /// Single calls before their memories are filled anew.
 const RENEWAL: u64 = 200;
+/// Calls among a thousand that write or read PBM. One takes as long as some hundred others.
+const PBM_CALLS: u64 = 7;
 
 /// The same seed makes the same calls; a smaller number of calls makes the first of them.
 pub fn compare(
@@ -69,6 +71,9 @@ impl<'a, L: Card, M: Card> Differ<'a, L, M> {
 
     /// One call: of the run, or by itself.
     fn step(&mut self) -> Result<(), Box<Difference>> {
+        if self.random.below(1_000) < PBM_CALLS {
+            return self.pbm();
+        }
         match self.random.below(100) {
             0..=54 if self.left_in_run > 0 => self.run_on(),
             0..=54 => self.begin_run(),
@@ -119,15 +124,26 @@ impl<'a, L: Card, M: Card> Differ<'a, L, M> {
     }
 
     fn single_call(&mut self) -> Result<(), Box<Difference>> {
+        self.renew_single();
+        let (state, known) = single::state(&mut self.random);
+        let call = single::call(&mut self.random, &state);
+        let outcome = self.single.play(self.library, self.model, state, call);
+        self.settle(Place::Single, state, call, outcome, known)
+    }
+
+    fn renew_single(&mut self) {
         if self.left_to_renewal == 0 {
             self.left_to_renewal = RENEWAL;
             self.single.renew(&mut self.random);
         }
         self.left_to_renewal -= 1;
-        let (state, known) = single::state(&mut self.random);
-        let call = single::call(&mut self.random, &state);
-        let outcome = self.single.play(self.library, self.model, state, call);
-        self.settle(Place::Single, state, call, outcome, known)
+    }
+
+    fn pbm(&mut self) -> Result<(), Box<Difference>> {
+        self.renew_single();
+        let (call, known) = pbm::call(&mut self.random, &mut self.single);
+        let outcome = self.single.play(self.library, self.model, ALL_ONES, call);
+        self.settle(Place::Single, ALL_ONES, call, outcome, known)
     }
 
     /// Counts a call on which all agree: both cards, and what was known of the state before.
@@ -144,18 +160,18 @@ impl<'a, L: Card, M: Card> Differ<'a, L, M> {
         let promise = match known {
             Known::Good | Known::LeftOver(_) => Some(Promise::Good),
             Known::Refused(_) => Some(Promise::Bad),
-            Known::Nothing => None,
+            Known::File(_) | Known::Nothing => None,
         };
         if outcome.agrees() && promise.is_none_or(|promise| promise.is_kept(number)) {
             return Ok(());
         }
-        let before = match place {
+        let lent = match place {
             Place::Run => self.run.before().clone(),
             Place::Single => self.single.before().clone(),
         };
         // Where the cards differ, that is what is told.
         let promise = promise.filter(|_| outcome.agrees());
-        let case = Case { state, call, picture: before.picture, table: before.table, promise };
+        let case = Case { state, call, lent, promise };
         Err(Box::new(Difference::met(self.seed, self.tally.calls, case, outcome, self.library, self.model)))
     }
 }

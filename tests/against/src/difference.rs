@@ -31,18 +31,27 @@ impl Difference {
         library: &impl Card,
         model: &impl Card,
     ) -> Difference {
-        // A case that was met because a promise broke must go on to break it, and one that differs to differ.
-        let shows = |case: &Case| {
-            let outcome = case.play(library, model);
-            !case.is_settled(&outcome) && outcome.agrees() == case.promise.is_some()
-        };
-        if !shows(&case) {
-            return Difference { seed, calls, case, outcome, is_alone: false };
+        match smallest(case.clone(), library, model) {
+            Some((case, outcome)) => Difference { seed, calls, case, outcome, is_alone: true },
+            None => Difference { seed, calls, case, outcome, is_alone: false },
         }
-        let case = shrunk(case, shows);
-        let outcome = case.play(library, model);
-        Difference { seed, calls, case, outcome, is_alone: true }
     }
+}
+
+/// The smallest case found that shows what this one shows, and what both cards do with it; None where this one does not
+/// show it by itself.
+pub fn smallest(case: Case, library: &impl Card, model: &impl Card) -> Option<(Case, Outcome)> {
+    // A case that was met because a promise broke must go on to break it, and one that differs to differ.
+    let shows = |case: &Case| {
+        let outcome = case.play(library, model);
+        !case.is_settled(&outcome) && outcome.agrees() == case.promise.is_some()
+    };
+    if !shows(&case) {
+        return None;
+    }
+    let case = shrunk(case, shows);
+    let outcome = case.play(library, model);
+    Some((case, outcome))
 }
 
 impl Display for Difference {
@@ -61,11 +70,14 @@ impl Display for Difference {
 /// What both cards did with a case.
 pub fn told(out: &mut impl std::fmt::Write, case: &Case, outcome: &Outcome) -> Result {
     writeln!(out, "call:    {}", case.call)?;
-    writeln!(out, "state:   {}", fields(&case.state))?;
+    if case.call.knows_state() {
+        writeln!(out, "state:   {}", fields(&case.state))?;
+    }
     writeln!(out, "library: {}", words(&outcome.library))?;
     writeln!(out, "model:   {}", words(&outcome.model))?;
-    memory(out, "picture", case.picture.len(), outcome.picture)?;
-    memory(out, "table", case.table.len(), outcome.table)?;
+    memory(out, "picture", case.lent.picture.len(), outcome.picture)?;
+    memory(out, "table", case.lent.table.len(), outcome.table)?;
+    memory(out, "file", case.lent.file.len(), outcome.file)?;
     match case.promise {
         Some(promise) if promise.is_kept(outcome.model.number()) => Ok(()),
         Some(Promise::Good) => writeln!(out, "Both agree, but the state was drawn good."),
@@ -83,6 +95,7 @@ fn words(reply: &Reply) -> String {
             "number {}, CK low {}, CK high {}, MSL {}",
             lines.number, lines.low, lines.high, lines.msl
         ),
+        Reply::Pbm(answer) => format!("number {}, value {}", answer.number, answer.value),
     }
 }
 

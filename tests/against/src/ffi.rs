@@ -1,9 +1,9 @@
 //! The library's own calls, made safe: a lent memory is a slice here, a pointer and a length there.
 
-use crate::flat::{Flat, FlatAddress, FlatAnswer};
+use crate::flat::{Flat, FlatAddress, FlatAnswer, FlatPbm};
 
 mod exported {
-    use crate::flat::{Flat, FlatAddress, FlatAnswer};
+    use crate::flat::{Flat, FlatAddress, FlatAnswer, FlatPbm};
 
     extern "C" {
         pub fn gdp_fresh(format: u8) -> FlatAnswer;
@@ -20,6 +20,20 @@ mod exported {
         pub fn gdp_set_vb(state: Flat, level: u8, pic: *mut u8, pic_len: usize) -> FlatAnswer;
         pub fn gdp_lpck(state: Flat, h: u16, v: u16) -> FlatAnswer;
         pub fn gdp_address(state: Flat) -> FlatAddress;
+        pub fn gdp_write_pbm(
+            format: u8,
+            picture: *const u8,
+            picture_length: usize,
+            buffer: *mut u8,
+            buffer_length: usize,
+        ) -> FlatPbm;
+        pub fn gdp_read_pbm(
+            format: u8,
+            file: *const u8,
+            file_length: usize,
+            picture: *mut u8,
+            picture_length: usize,
+        ) -> FlatPbm;
     }
 }
 
@@ -53,4 +67,14 @@ pub fn lpck(state: Flat, h: u16, v: u16) -> FlatAnswer {
 
 pub fn address(state: Flat) -> FlatAddress {
     unsafe { exported::gdp_address(state) }
+}
+
+pub fn write_pbm(format: u8, picture: &[u8], buffer: &mut [u8]) -> FlatPbm {
+    let (to, room) = (buffer.as_mut_ptr(), buffer.len());
+    unsafe { exported::gdp_write_pbm(format, picture.as_ptr(), picture.len(), to, room) }
+}
+
+pub fn read_pbm(format: u8, file: &[u8], picture: &mut [u8]) -> FlatPbm {
+    let (to, room) = (picture.as_mut_ptr(), picture.len());
+    unsafe { exported::gdp_read_pbm(format, file.as_ptr(), file.len(), to, room) }
 }

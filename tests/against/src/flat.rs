@@ -81,8 +81,17 @@ pub struct FlatAddress {
     pub msl: u8,
 }
 
+/// The value is past 16 bits: the bytes of a file.
+#[repr(C)]
+#[derive(Clone, Copy, PartialEq, Eq, Debug)]
+pub struct FlatPbm {
+    pub number: u8,
+    pub value: u32,
+}
+
 const _: () = assert!(size_of::<Flat>() == 16 && align_of::<Flat>() == 2);
 const _: () = assert!(size_of::<FlatAnswer>() == 20 && size_of::<FlatAddress>() == 4);
+const _: () = assert!(size_of::<FlatPbm>() == 8 && std::mem::offset_of!(FlatPbm, value) == 4);
 
 /// What `gdp_fresh` hands back for a format that is none.
 pub const ALL_ONES: Flat = Flat {

@@ -4,7 +4,7 @@
 use crate::random::Random;
 
 /// Bytes before the lent part; at least as many follow it.
-const GUARD: usize = 64;
+pub const GUARD: usize = 64;
 
 pub struct Lent {
     library: Vec<u8>,
@@ -42,10 +42,15 @@ impl Lent {
     /// Room for as much, the lent part as given.
     pub fn holding(longest: usize, bytes: &[u8]) -> Lent {
         let mut lent = Lent::new(longest);
-        for memory in [&mut lent.library, &mut lent.model] {
+        lent.lay(bytes);
+        lent
+    }
+
+    /// The same new start of the lent part for both; what lies behind it stays.
+    pub fn lay(&mut self, bytes: &[u8]) {
+        for memory in [&mut self.library, &mut self.model] {
             memory[GUARD..GUARD + bytes.len()].copy_from_slice(bytes);
         }
-        lent
     }
 
     /// The lent part, while both still have the same.

@@ -18,7 +18,10 @@ pub mod flat;
 pub mod lent;
 pub mod library;
 pub mod log;
+pub mod memory;
 pub mod model;
+pub mod pbm_coverage;
+pub mod program;
 pub mod random;
 pub mod scene;
 #[cfg(not(linked))]

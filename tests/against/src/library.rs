@@ -9,7 +9,7 @@ pub use linked::Library;
 mod linked {
     use crate::card::Card;
     use crate::ffi;
-    use crate::flat::{Flat, FlatAddress, FlatAnswer};
+    use crate::flat::{Flat, FlatAddress, FlatAnswer, FlatPbm};
     use crate::lent::Part;
 
     pub struct Library;
@@ -47,6 +47,14 @@ mod linked {
 
         fn address(&self, state: Flat) -> FlatAddress {
             ffi::address(state)
+        }
+
+        fn write_pbm(&self, format: u8, mut picture: Part, mut buffer: Part) -> FlatPbm {
+            ffi::write_pbm(format, picture.bytes(), buffer.bytes())
+        }
+
+        fn read_pbm(&self, format: u8, mut file: Part, mut picture: Part) -> FlatPbm {
+            ffi::read_pbm(format, file.bytes(), picture.bytes())
         }
     }
 }

@@ -1,13 +1,41 @@
-//! Panel logs: mostly well-formed mixes, some with damaged lines, some of hostile bytes.
+//! Panel logs. Generated: mostly well-formed mixes, some with damaged lines, some of hostile bytes. And the stored ones.
 
 use crate::random::Random;
+use std::path::{Path, PathBuf};
 
+const SEED: u64 = 9366;
 const HEX: &[u8; 16] = b"0123456789ABCDEF";
 /// What damage puts in: near misses of what a line may hold, and bytes no line may hold.
 const HOSTILE: &[u8] = b"\t\t\n\r \0\x7f\x80\xffagGWRTVLP0129AF-+:/@";
 
+/// So many logs, each with its name; PANEL_SEED tries others.
+pub fn generated(logs: usize) -> impl Iterator<Item = (String, Vec<u8>)> {
+    let seed =
+        std::env::var("PANEL_SEED").map_or(SEED, |words| words.parse().expect("PANEL_SEED is a number"));
+    let mut random = Random::new(seed);
+    (0..logs).map(move |number| {
+        let log = match number % 10 {
+            0 => noise(&mut random, 400),
+            1 => log(&mut random, 3000),
+            _ => log(&mut random, 200),
+        };
+        (format!("log {number} of seed {seed}"), log)
+    })
+}
+
+/// Where the logs lie that are stored.
+pub fn stored() -> Vec<PathBuf> {
+    let folders = ["../../examples", "../runs"].map(|name| Path::new(env!("CARGO_MANIFEST_DIR")).join(name));
+    let entries = folders.iter().flat_map(|folder| std::fs::read_dir(folder).unwrap());
+    let paths = entries.map(|entry| entry.unwrap().path());
+    let logs: Vec<PathBuf> =
+        paths.filter(|path| path.extension().is_some_and(|extension| extension == "log")).collect();
+    assert_eq!(logs.len(), 13);
+    logs
+}
+
 /// A log of up to `most` lines.
-pub fn log(random: &mut Random, most: u64) -> Vec<u8> {
+fn log(random: &mut Random, most: u64) -> Vec<u8> {
     let mut bytes = Vec::new();
     let lines = random.below(most + 1);
     let damage = [0, 0, 5, 40][random.below(4) as usize];
@@ -26,7 +54,7 @@ pub fn log(random: &mut Random, most: u64) -> Vec<u8> {
 }
 
 /// Bytes of no form at all.
-pub fn noise(random: &mut Random, most: u64) -> Vec<u8> {
+fn noise(random: &mut Random, most: u64) -> Vec<u8> {
     (0..random.below(most + 1)).map(|_| HOSTILE[random.below(HOSTILE.len() as u64) as usize]).collect()
 }
 

@@ -2,15 +2,17 @@
 
 use crate::card::Card;
 use crate::convert::{flattened, format_of, state_of};
-use crate::flat::{Flat, FlatAddress, FlatAnswer, ALL_ONES};
+use crate::flat::{Flat, FlatAddress, FlatAnswer, FlatPbm, ALL_ONES};
 use crate::lent::Part;
-use second::{Answer, State};
+use second::{Answer, Format, PbmAnswer, State};
 
 #[derive(Clone, Copy)]
 pub struct Model;
 
 /// Refusal 1: the state is impossible, or a number in it names nothing.
 const BAD_STATE: u8 = 1;
+/// Refusal 2: no picture is as long as that of a format that is none.
+const BAD_PICTURE: u8 = 2;
 
 impl Card for Model {
     fn fresh(&self, format: u8) -> FlatAnswer {
@@ -47,6 +49,14 @@ impl Card for Model {
         let answer = second::address(&state);
         FlatAddress { number: answer.number, low: answer.ck_low, high: answer.ck_high, msl: answer.msl }
     }
+
+    fn write_pbm(&self, format: u8, mut picture: Part, mut buffer: Part) -> FlatPbm {
+        of_format(format, |format| second::pbm_write(format, picture.bytes(), buffer.bytes()))
+    }
+
+    fn read_pbm(&self, format: u8, mut file: Part, mut picture: Part) -> FlatPbm {
+        of_format(format, |format| second::pbm_read(format, file.bytes(), picture.bytes()))
+    }
 }
 
 /// A flat value that stands for no state is refused before the call sees it. A refusal hands back what it was handed,
@@ -58,4 +68,12 @@ fn answered(flat: Flat, call: impl FnOnce(&State) -> Answer) -> FlatAnswer {
     let answer = call(&state);
     let next = if answer.number == 0 { flattened(&answer.state) } else { flat };
     FlatAnswer { number: answer.number, value: answer.value, state: next }
+}
+
+fn of_format(number: u8, call: impl FnOnce(Format) -> PbmAnswer) -> FlatPbm {
+    let Some(format) = format_of(number) else {
+        return FlatPbm { number: BAD_PICTURE, value: 0 };
+    };
+    let answer = call(format);
+    FlatPbm { number: answer.number, value: answer.value }
 }

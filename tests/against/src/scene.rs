@@ -1,6 +1,6 @@
 //! The memories that calls are made on, and one call made by both cards.
 
-use crate::call::{Call, Reply};
+use crate::call::{Call, Lengths, Parts, Reply};
 use crate::card::Card;
 use crate::flat::Flat;
 use crate::lent::{Fault, Lent};
@@ -9,18 +9,22 @@ use crate::random::Random;
 /// Longer than the longest picture, so that too long ones can be lent.
 pub const LONGEST_PICTURE: usize = 40_000;
 pub const LONGEST_TABLE: usize = 1_000;
+/// Longer than the longest PBM that is written, so that more white space, comments and a tail have room.
+pub const LONGEST_FILE: usize = 300_000;
 
 pub struct Scene {
     pub picture: Lent,
     pub table: Lent,
-    before: Before,
+    pub file: Lent,
+    before: Memories,
 }
 
-/// The memories that the last call was lent, as they were before it.
+/// What a call is lent: a memory has no bytes where it is not lent.
 #[derive(Clone, Default, PartialEq, Eq, Debug)]
-pub struct Before {
+pub struct Memories {
     pub picture: Vec<u8>,
     pub table: Vec<u8>,
+    pub file: Vec<u8>,
 }
 
 /// What both cards did with one call.
@@ -30,30 +34,34 @@ pub struct Outcome {
     pub model: Reply,
     pub picture: Option<Fault>,
     pub table: Option<Fault>,
+    pub file: Option<Fault>,
 }
 
 impl Outcome {
     pub fn agrees(&self) -> bool {
-        self.library == self.model && self.picture.is_none() && self.table.is_none()
+        let faults = [self.picture, self.table, self.file];
+        self.library == self.model && faults.iter().all(Option::is_none)
     }
 }
 
 impl Default for Scene {
     fn default() -> Scene {
-        Scene::holding(&[], &[])
+        Scene::holding(&Memories::default())
     }
 }
 
 impl Scene {
-    pub fn holding(picture: &[u8], table: &[u8]) -> Scene {
+    pub fn holding(memories: &Memories) -> Scene {
         Scene {
-            picture: Lent::holding(LONGEST_PICTURE, picture),
-            table: Lent::holding(LONGEST_TABLE, table),
-            before: Before::default(),
+            picture: Lent::holding(LONGEST_PICTURE, &memories.picture),
+            table: Lent::holding(LONGEST_TABLE, &memories.table),
+            file: Lent::holding(LONGEST_FILE, &memories.file),
+            before: Memories::default(),
         }
     }
 
-    pub fn before(&self) -> &Before {
+    /// The memories that the last call was lent, as they were before it.
+    pub fn before(&self) -> &Memories {
         &self.before
     }
 
@@ -68,22 +76,44 @@ impl Scene {
     }
 
     pub fn play(&mut self, library: &impl Card, model: &impl Card, state: Flat, call: Call) -> Outcome {
-        let (picture, table) = call.lends().unwrap_or((0, 0));
-        self.before.picture.clear();
-        self.before.picture.extend_from_slice(self.picture.lent(picture));
-        self.before.table.clear();
-        self.before.table.extend_from_slice(self.table.lent(table));
-        let of_library = (self.picture.to_library(picture), self.table.to_library(table));
-        let library = call.made(library, state, of_library.0, of_library.1);
-        let of_model = (self.picture.to_model(picture), self.table.to_model(table));
-        let model = call.made(model, state, of_model.0, of_model.1);
-        // A call that lends nothing has no way to the memories.
-        let lends = call.lends().is_some();
+        let lends = call.lends();
+        self.remember(lends);
+        let library = call.made(library, state, self.to_library(lends));
+        let model = call.made(model, state, self.to_model(lends));
+        // A call has no way to a memory that it is not lent.
+        let fault = |lent: &Lent, length: Option<usize>| length.and_then(|_| lent.fault());
         Outcome {
             library,
             model,
-            picture: if lends { self.picture.fault() } else { None },
-            table: if lends { self.table.fault() } else { None },
+            picture: fault(&self.picture, lends.picture),
+            table: fault(&self.table, lends.table),
+            file: fault(&self.file, lends.file),
+        }
+    }
+
+    fn remember(&mut self, lends: Lengths) {
+        let copy = |to: &mut Vec<u8>, lent: &Lent, length: Option<usize>| {
+            to.clear();
+            to.extend_from_slice(lent.lent(length.unwrap_or(0)));
+        };
+        copy(&mut self.before.picture, &self.picture, lends.picture);
+        copy(&mut self.before.table, &self.table, lends.table);
+        copy(&mut self.before.file, &self.file, lends.file);
+    }
+
+    pub fn to_library(&mut self, lends: Lengths) -> Parts<'_> {
+        Parts {
+            picture: self.picture.to_library(lends.picture.unwrap_or(0)),
+            table: self.table.to_library(lends.table.unwrap_or(0)),
+            file: self.file.to_library(lends.file.unwrap_or(0)),
+        }
+    }
+
+    pub fn to_model(&mut self, lends: Lengths) -> Parts<'_> {
+        Parts {
+            picture: self.picture.to_model(lends.picture.unwrap_or(0)),
+            table: self.table.to_model(lends.table.unwrap_or(0)),
+            file: self.file.to_model(lends.file.unwrap_or(0)),
         }
     }
 }

@@ -1,11 +1,15 @@
-//! A smaller case that still differs: memories darkened, lengths put right, numbers made smaller, one after the other
-//! for as long as any of it leaves the difference standing.
+//! A smaller case that still differs: memories darkened, lengths put right, files made shorter, numbers made smaller,
+//! one after the other for as long as any of it leaves the difference standing.
+
+mod memories;
 
 use crate::call::Call;
 use crate::case::Case;
-use crate::convert::{flattened, format_of, state_of};
-use crate::draw::arguments::{bytes, TABLE_BYTES};
+use crate::convert::{flattened, state_of};
 use crate::flat::{Flat, CLEAR_IS_0C, CLEAR_IS_OPEN, FORMAT, PEN, WORK};
+use crate::scene::Memories;
+use memories::{darken, plainer_files, resized, right_lengths, right_picture, shorten_file, MEMORIES};
+use std::cell::Cell;
 
 /// CSIZE as a fresh card has it counts as the smallest: 0 means 16.
 const CSIZE: u8 = 0x11;
@@ -13,18 +17,33 @@ const CSIZE: u8 = 0x11;
 const ONE_CYCLE: u8 = 0x0F;
 const VECTOR: u8 = 0x10;
 
+/// A file of PBM takes milliseconds to read, so what does not get smaller within so many tries stays as it is.
+const TRIES: u32 = 3_000;
+
 /// The smallest case found that shows the difference, which the given one does.
 pub fn shrunk(mut case: Case, shows: impl Fn(&Case) -> bool) -> Case {
+    let tries = Cell::new(TRIES);
+    let shows = |candidate: &Case| {
+        if candidate.call.lends().file.is_some() {
+            tries.set(tries.get().saturating_sub(1));
+        }
+        tries.get() > 0 && shows(candidate)
+    };
     loop {
         let before = weight(&case);
-        for candidate in right_lengths(&case) {
+        for candidate in right_lengths(&case).into_iter().chain(plainer_files(&case)) {
             keep_lighter(&mut case, candidate, &shows);
         }
         for leap in LEAPS {
             let candidate = leapt(&case, leap);
             keep_lighter(&mut case, candidate, &shows);
         }
-        darken(&mut case, &shows);
+        for memory in MEMORIES {
+            darken(&mut case, memory, &shows);
+        }
+        if matches!(case.call, Call::ReadPbm { .. }) {
+            shorten_file(&mut case, &shows);
+        }
         for knob in KNOBS {
             turn_down(&mut case, knob, &shows);
         }
@@ -44,33 +63,8 @@ fn keep_lighter(case: &mut Case, candidate: Case, shows: &impl Fn(&Case) -> bool
 
 /// Falls with every step that is kept, so that shrinking ends.
 fn weight(case: &Case) -> u64 {
-    let memory = |lent: &[u8], right: usize| {
-        let lit = lent.iter().filter(|byte| **byte != 0).count();
-        let length = if lent.len() == right { 0 } else { 1 + lent.len() };
-        (lit * 0x10_0000 + length) as u64
-    };
     let numbers: u64 = KNOBS.iter().map(|knob| u64::from(knob.weight(case))).sum();
-    memory(&case.picture, right_picture(case)) + memory(&case.table, TABLE_BYTES) + numbers
-}
-
-fn right_picture(case: &Case) -> usize {
-    format_of(case.state.modes & FORMAT).map_or(0, bytes)
-}
-
-fn resized(memory: &[u8], length: usize) -> Vec<u8> {
-    let mut memory = memory.to_vec();
-    memory.resize(length, 0);
-    memory
-}
-
-/// The picture and the table of the lengths that no call refuses, or of none.
-fn right_lengths(case: &Case) -> Vec<Case> {
-    let lends = case.call.lends();
-    let picture = [right_picture(case), 0].map(|length| (resized(&case.picture, length), case.table.clone()));
-    let table = [TABLE_BYTES, 0].map(|length| (case.picture.clone(), resized(&case.table, length)));
-    let of_grant = matches!(case.call, Call::Grant { .. });
-    let lent = picture.into_iter().filter(|_| lends.is_some()).chain(table.into_iter().filter(|_| of_grant));
-    lent.map(|(picture, table)| case.clone().lending(picture, table)).collect()
+    memories::weight(case) + numbers
 }
 
 /// Fields of the state that only change together; left-overs go first.
@@ -91,31 +85,12 @@ const LEAPS: [fn(&mut Flat); 7] = [
 fn leapt(case: &Case, leap: fn(&mut Flat)) -> Case {
     let mut next = case.clone();
     on_state(&mut next, leap);
-    if case.call.lends().is_some() && case.picture.len() == right_picture(case) {
-        let picture = resized(&case.picture, right_picture(&next));
-        return next.lending(picture, case.table.clone());
+    if case.call.lends().picture.is_some() && case.lent.picture.len() == right_picture(case) {
+        let picture = resized(&case.lent.picture, right_picture(&next));
+        let lent = Memories { picture, ..case.lent.clone() };
+        return next.lending(lent);
     }
     next
-}
-
-/// Ever smaller parts of both memories made 00: the halves first, single bytes last.
-fn darken(case: &mut Case, shows: &impl Fn(&Case) -> bool) {
-    for of_table in [true, false] {
-        let length = if of_table { case.table.len() } else { case.picture.len() };
-        let mut part = length;
-        while part > 0 {
-            for start in (0..length).step_by(part) {
-                let mut candidate = case.clone();
-                let memory = if of_table { &mut candidate.table } else { &mut candidate.picture };
-                let end = (start + part).min(length);
-                if memory[start..end].iter().any(|byte| *byte != 0) {
-                    memory[start..end].fill(0);
-                    keep_lighter(case, candidate, shows);
-                }
-            }
-            part /= 2;
-        }
-    }
 }
 
 /// A number of the case that can be made smaller.
@@ -137,9 +112,9 @@ impl Knob {
     }
 }
 
-/// A state of which something was known stays as it is.
+/// A state of which something was known stays as it is, and so does what stands for one where a call knows none.
 fn on_state(case: &mut Case, set: impl FnOnce(&mut Flat)) {
-    if case.promise.is_none() {
+    if case.promise.is_none() && case.call.knows_state() {
         set(&mut case.state);
     }
 }
@@ -210,6 +185,7 @@ fn argument(call: &Call, place: usize) -> u16 {
         Call::SetVb { level, .. } => [u16::from(level), 0],
         Call::Lpck { h, v } => [h, v],
         Call::Address => [0, 0],
+        Call::WritePbm { format, .. } | Call::ReadPbm { format, .. } => [u16::from(format), 0],
     };
     both[place]
 }
@@ -224,6 +200,7 @@ fn set_argument(call: &mut Call, place: usize, number: u16) {
         (Call::Grant { n, .. }, 0) => *n = number,
         (Call::SetVb { level, .. }, 0) => *level = number as u8,
         (Call::Lpck { h, .. }, 0) => *h = number,
+        (Call::WritePbm { format, .. } | Call::ReadPbm { format, .. }, 0) => *format = number as u8,
         (Call::Lpck { v, .. }, 1) => *v = number,
         _ => {}
     }

@@ -10,6 +10,8 @@ use std::fmt::{Display, Formatter, Result};
 
 /// A run this long must have met everything often enough.
 pub const WHOLE_RUN: u64 = 500_000;
+/// The refusal numbers, and 0.
+const NUMBERS: usize = 13;
 /// Each kind of call, number, class of command, cause of refusal 1, and left-over accepted and refused.
 const OFTEN: u64 = 100;
 /// Each row of the finer counts.
@@ -57,7 +59,7 @@ impl Tally {
         match known {
             Known::Refused(cause) => self.causes[cause].1 += 1,
             Known::LeftOver(kind) => self.left_overs[kind][usize::from(number != 0)] += 1,
-            Known::Good | Known::Nothing => {}
+            Known::Good | Known::File(_) | Known::Nothing => {}
         }
     }
 
@@ -77,7 +79,8 @@ impl Tally {
         };
         let seldom = |what: String, count: u64| below(OFTEN, what, count);
         let kinds = KINDS.iter().zip(self.kinds).filter_map(|(name, n)| seldom(name.to_string(), n));
-        let numbers = (0..9).filter_map(|number| seldom(format!("number {number}"), self.numbers[number]));
+        let numbers =
+            (0..NUMBERS).filter_map(|number| seldom(format!("number {number}"), self.numbers[number]));
         let commands =
             CLASSES.iter().zip(self.commands).filter_map(|((_, name), n)| seldom(name.to_string(), n));
         let causes = self.causes.iter().filter_map(|(name, n)| seldom(format!("refusal 1 for {name}"), *n));

@@ -4,10 +4,9 @@ use against::call::Reply;
 use against::convert::{flattened, has_left_overs, state_of};
 use against::draw::{impossible, left_over, no_state, single, states};
 use against::flat::{Flat, FlatAnswer};
-use against::lent::Lent;
 use against::model::Model;
 use against::random::Random;
-use against::scene::{LONGEST_PICTURE, LONGEST_TABLE};
+use against::scene::Scene;
 use second::{fresh, ClearKind, Flags, Format, Pen, State, Work};
 
 /// As `include/gdp.h` says, worked out by hand.
@@ -70,19 +69,18 @@ fn what_is_left_over_stands_for_nothing() {
 #[test]
 fn what_is_left_over_changes_no_answer() {
     let mut random = Random::new(19);
-    let (mut picture, mut table) = (Lent::new(LONGEST_PICTURE), Lent::new(LONGEST_TABLE));
+    let mut scene = Scene::default();
     for _ in 0..500 {
-        picture.refill(&mut random);
-        table.refill(&mut random);
+        scene.picture.refill(&mut random);
+        scene.table.refill(&mut random);
         for (kind, (name, _, _)) in left_over::KINDS.iter().enumerate() {
             let (state, flat) = left_over::planted(&mut random, kind);
             let call = single::call(&mut random, &flat);
-            let (lent, listed) = call.lends().unwrap_or((0, 0));
-            let found = call.made(&Model, flat, picture.to_library(lent), table.to_library(listed));
+            let found = call.made(&Model, flat, scene.to_library(call.lends()));
             let clean = flattened(&state);
-            let wanted = call.made(&Model, clean, picture.to_model(lent), table.to_model(listed));
+            let wanted = call.made(&Model, clean, scene.to_model(call.lends()));
             assert_eq!(found, handed_back(wanted, flat), "{name}: {call}");
-            assert!(picture.fault().is_none() && table.fault().is_none(), "{name}: {call}");
+            assert!(scene.picture.fault().is_none() && scene.table.fault().is_none(), "{name}: {call}");
         }
     }
 }

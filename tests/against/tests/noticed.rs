@@ -6,7 +6,8 @@ use against::case::Case;
 use against::differ::compare;
 use against::difference::Difference;
 use against::flat::{
-    Flat, FlatAddress, FlatAnswer, CLEAR, CLEAR_IS_OPEN, FORMAT, READY_FLAG, SIGNALS_BIT_0, STEPS, VB, WORK,
+    Flat, FlatAddress, FlatAnswer, FlatPbm, CLEAR, CLEAR_IS_OPEN, FORMAT, READY_FLAG, SIGNALS_BIT_0, STEPS,
+    VB, WORK,
 };
 use against::lent::Part;
 use against::model::Model;
@@ -42,6 +43,18 @@ enum Fault {
     Fresh,
     /// An impossible state taken as good.
     Lenient,
+    /// The bottom line written first.
+    Upturned,
+    /// A byte behind the written ones changed in the buffer.
+    Overrun,
+    /// The picture changed though the dots are refused.
+    HalfRead,
+    /// The last dot of a file left dark.
+    LastDot,
+    /// A width of 32 bits and more looked at without those above.
+    Wrapped,
+    /// A format that is none read as FMAT low.
+    AnyFormat,
 }
 
 /// The model with a fault.
@@ -130,6 +143,49 @@ impl Card for Wrong {
         }
         lines
     }
+
+    fn write_pbm(&self, format: u8, mut picture: Part, mut buffer: Part) -> FlatPbm {
+        let format = if self.0 == Fault::AnyFormat { format.min(2) } else { format };
+        let answer = Model.write_pbm(format, again(&mut picture), again(&mut buffer));
+        let written = answer.value as usize;
+        match (self.0, answer.number) {
+            (Fault::Upturned, 0) if format < 2 => upturned(&mut buffer.bytes()[..written]),
+            (Fault::Overrun, 0) => buffer.whole[buffer.start + written] ^= 1,
+            _ => {}
+        }
+        answer
+    }
+
+    fn read_pbm(&self, format: u8, mut file: Part, mut picture: Part) -> FlatPbm {
+        if self.0 == Fault::Wrapped {
+            let mut bytes = wrapped(file.bytes());
+            let length = bytes.len();
+            return Model.read_pbm(format, Part { whole: &mut bytes, start: 0, length }, picture);
+        }
+        let answer = Model.read_pbm(format, file, again(&mut picture));
+        match (self.0, answer.number) {
+            (Fault::HalfRead, 12) => picture.bytes().iter_mut().for_each(|byte| *byte = !*byte),
+            // The right end of the bottom line.
+            (Fault::LastDot, 0) => picture.bytes()[if format == 2 { 31 } else { 63 }] &= 0x7F,
+            _ => {}
+        }
+        answer
+    }
+}
+
+/// Lines of the screen in the other order, in the file of a format 512 wide.
+fn upturned(file: &mut [u8]) {
+    let dots = file[11..].to_vec();
+    let lines = dots.chunks(8 * 65).rev();
+    file[11..].chunks_mut(8 * 65).zip(lines).for_each(|(to, from)| to.copy_from_slice(from));
+}
+
+/// What a reader in 32 bits makes of a width of 512 and 2 to the 32.
+fn wrapped(file: &[u8]) -> Vec<u8> {
+    match file.strip_prefix(b"P1\n4294967808") {
+        Some(rest) => [b"P1\n512", rest].concat(),
+        None => file.to_vec(),
+    }
 }
 
 fn again<'a>(part: &'a mut Part) -> Part<'a> {
@@ -184,7 +240,7 @@ fn a_wrong_value() {
     // A vector of one dot, granted two cycles; nothing in either memory matters.
     let told = noticed(Fault::Value);
     assert!(matches!(told.case.call, Call::Grant { n: 2, table: 480, .. }), "{told}");
-    assert!(told.case.picture.iter().chain(&told.case.table).all(|byte| *byte == 0), "{told}");
+    assert!(told.case.lent.picture.iter().chain(&told.case.lent.table).all(|byte| *byte == 0), "{told}");
 }
 
 #[test]
@@ -199,8 +255,8 @@ fn a_wrong_picture() {
     let fault = told.outcome.picture.expect("the picture differs");
     assert!([8_191, 16_383, 32_767].contains(&fault.place));
     // One bit of the last byte is enough to show it.
-    let lit: Vec<usize> =
-        (0..told.case.picture.len()).filter(|place| told.case.picture[*place] != 0).collect();
+    let picture = &told.case.lent.picture;
+    let lit: Vec<usize> = (0..picture.len()).filter(|place| picture[*place] != 0).collect();
     assert_eq!(lit, [fault.place as usize], "{told}");
 }
 
@@ -259,6 +315,55 @@ fn an_impossible_state_taken_as_good() {
     told_as(&noticed(Fault::Lenient), "lpck 00100000000000001100000000000000 0 0");
 }
 
+#[test]
+fn a_picture_written_from_the_bottom() {
+    // One byte of the picture is lit, and the buffer just as long as it must be.
+    let told = noticed(Fault::Upturned);
+    let (picture, buffer) = (&told.case.lent.picture, &told.case.lent.file);
+    assert_eq!((picture.len(), buffer.len()), (16_384, 133_131), "{told}");
+    assert_eq!(picture.iter().filter(|byte| **byte != 0).count(), 1, "{told}");
+    assert!(told.outcome.file.is_some() && told.to_string().contains("file: first at byte "), "{told}");
+}
+
+#[test]
+fn a_buffer_written_past_the_file() {
+    let told = noticed(Fault::Overrun);
+    told_as(&told, "write-pbm 00 16384 133131");
+    assert!(told.to_string().contains("file: first at byte 133131, outside the lent part"), "{told}");
+}
+
+#[test]
+fn a_picture_changed_though_refused() {
+    // A head and no dot.
+    let told = noticed(Fault::HalfRead);
+    let heads = ["00 10:0=50310A35313220323536 16384", "01 10:0=50310A35313220353132 32768"];
+    let heads = heads.into_iter().chain(["02 10:0=50310A32353620323536 8192"]);
+    let mut commands = heads.map(|words| format!("differ call read-pbm {words}\n"));
+    assert!(commands.any(|command| told.to_string().contains(&command)), "{told}");
+}
+
+#[test]
+fn a_last_dot_that_is_not_read() {
+    // All dots are needed, and those before the last are told in a word.
+    let told = noticed(Fault::LastDot);
+    let command = told.case.to_string();
+    let dots = ["11=30*131071,131082=31 16384", "11=30*262143,262154=31 32768", "11=30*65535,65546=31 8192"];
+    assert!(dots.iter().any(|dots| command.ends_with(dots)), "{told}");
+}
+
+#[test]
+fn a_number_that_wraps() {
+    // It is no longer the size that is refused, but that there are no dots.
+    let told = noticed(Fault::Wrapped);
+    let command = told.case.to_string();
+    assert!(command.contains(" 17:0=50310A343239343936373830382"), "{told}");
+}
+
+#[test]
+fn a_format_that_is_none() {
+    told_as(&noticed(Fault::AnyFormat), "write-pbm 03 8192 0");
+}
+
 /// Where both cards share the fault, what was planted in the state still tells.
 fn noticed_of_both(fault: Fault, words: &str) {
     let told = compare(&Wrong(fault), &Wrong(fault), SEED, WHOLE_RUN).err().expect("the fault is noticed");
@@ -286,7 +391,17 @@ fn a_whole_run_that_met_nothing_says_so() {
         ["refusal 1 for 0E running", "refusal 1 for format number 7", "refusal 1 for pen number 3"];
     let left_overs = ["idle with a code: accepted", "a clear with a progress: refused"];
     let finer = ["LPCK accepted beside a left-over, steps with an open frame", "number 8 beside left-overs"];
-    for row in calls.iter().chain(&refusals).chain(&left_overs).chain(&finer) {
+    let pbm = [
+        "wanted: PBM written.",
+        "wanted: number 9.",
+        "wanted: number 12.",
+        "PBM written, a buffer of one byte short",
+        "PBM read, number 10 on the FMAT low",
+        "PBM read, number 0 on the EF9366",
+        "PBM read, a picture of no length",
+        "PBM read, a bad last dot",
+    ];
+    for row in calls.iter().chain(&refusals).chain(&left_overs).chain(&finer).chain(&pbm) {
         assert!(tally.gaps().iter().any(|gap| gap.contains(row)), "{row}");
     }
     let never = "register write accepted beside a left-over, steps with 0C set";
@@ -298,7 +413,10 @@ fn words_that_are_no_call() {
     let given = ["", "write", "write 00 0 0", "read 00000000000000001100000000000000 100", "fresh GG"];
     let grants = ["65536 16384 480", "1 40001 480", "1 16384:16384=01 480", "1 16384:5 480"];
     let grants = grants.map(|rest| format!("grant 00000000000000001100000000000000 {rest}"));
-    for text in given.into_iter().chain(grants.iter().map(String::as_str)) {
+    let pbm = ["write-pbm 0 16384", "read-pbm 00 300001 16384", "read-pbm 00 9:8=3132 16384"];
+    let more = ["read-pbm 00 9:0=313 16384", "read-pbm 00 9:0=31*10 16384", "read-pbm 00 9:0=*9 16384"];
+    let pbm = pbm.into_iter().chain(more);
+    for text in given.into_iter().chain(grants.iter().map(String::as_str)).chain(pbm) {
         let words: Vec<String> = text.split(' ').map(str::to_string).collect();
         assert!(Case::of(&words).is_err(), "{text}");
     }

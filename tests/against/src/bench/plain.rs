@@ -6,6 +6,7 @@
 mod character;
 mod command;
 mod frame;
+pub mod pbm;
 mod register;
 mod vector;
 mod window;

@@ -26,7 +26,8 @@ pub struct Row {
 /// A workload made ready for one contender.
 trait Contender {
     fn spell(&mut self, passes: u64) -> Duration;
-    fn picture(&self) -> &[u8];
+    /// Picture and file as they are now.
+    fn left(&self) -> [&[u8]; 2];
 }
 
 struct Ready<R> {
@@ -43,8 +44,8 @@ impl<R: Runner> Contender for Ready<R> {
         began.elapsed()
     }
 
-    fn picture(&self) -> &[u8] {
-        &self.scene.picture
+    fn left(&self) -> [&[u8]; 2] {
+        [&self.scene.picture, &self.scene.file]
     }
 }
 
@@ -86,13 +87,13 @@ fn with_ours(peers: Vec<Box<dyn Contender>>, _: Workload) -> Vec<Box<dyn Contend
     peers
 }
 
-/// A time counts only for the same picture.
+/// A time counts only for the same picture and the same file.
 fn check(name: &str, set: &mut [Box<dyn Contender>]) {
     set.iter_mut().for_each(|contender| {
         contender.spell(1);
     });
-    let alike = set.iter().all(|contender| contender.picture() == set[0].picture());
-    assert!(alike, "the contenders draw different pictures in {name}: their times cannot be compared");
+    let alike = set.iter().all(|contender| contender.left() == set[0].left());
+    assert!(alike, "the contenders leave different bytes in {name}: their times cannot be compared");
 }
 
 fn calibrated(contender: &mut Box<dyn Contender>) -> u64 {

@@ -1,8 +1,8 @@
 //! The contenders behind the same few calls, on an EF9366. None of them is asked for what it would refuse.
 
 use super::morning::Draws;
-use super::plain::Plain;
-use super::tuned::Tuned;
+use super::plain::{self, Plain};
+use super::tuned::{self, Tuned};
 use second::{Format, State};
 
 pub trait Runner: Draws + Clone {
@@ -11,6 +11,8 @@ pub trait Runner: Draws + Clone {
     fn read(&mut self, address: u8) -> u16;
     /// From the command to its end, from VB high to VB high.
     fn clear(&mut self, picture: &mut [u8]);
+    fn write_pbm(picture: &[u8], buffer: &mut [u8]);
+    fn read_pbm(file: &[u8], picture: &mut [u8]);
 }
 
 /// The library, its state crossing by value both ways.
@@ -48,6 +50,14 @@ impl Runner for Ours {
         self.0 = crate::ffi::set_vb(self.0, 0, picture).state;
         self.0 = crate::ffi::set_vb(self.0, 1, picture).state;
     }
+
+    fn write_pbm(picture: &[u8], buffer: &mut [u8]) {
+        crate::ffi::write_pbm(0, picture, buffer);
+    }
+
+    fn read_pbm(file: &[u8], picture: &mut [u8]) {
+        crate::ffi::read_pbm(0, file, picture);
+    }
 }
 
 /// The model, which finds each cycle by the closed formulas.
@@ -82,6 +92,14 @@ impl Runner for Formulas {
         self.0 = second::set_vb(&self.0, false, picture).state;
         self.0 = second::set_vb(&self.0, true, picture).state;
     }
+
+    fn write_pbm(picture: &[u8], buffer: &mut [u8]) {
+        second::pbm_write(Format::Ef9366, picture, buffer);
+    }
+
+    fn read_pbm(file: &[u8], picture: &mut [u8]) {
+        second::pbm_read(Format::Ef9366, file, picture);
+    }
 }
 
 impl Draws for Plain {
@@ -110,6 +128,14 @@ impl Runner for Plain {
         self.set_vb(false, picture);
         self.set_vb(true, picture);
     }
+
+    fn write_pbm(picture: &[u8], buffer: &mut [u8]) {
+        let _ = plain::pbm::write_pbm(Format::Ef9366, picture, buffer);
+    }
+
+    fn read_pbm(file: &[u8], picture: &mut [u8]) {
+        plain::pbm::read_pbm(Format::Ef9366, file, picture);
+    }
 }
 
 impl Draws for Tuned {
@@ -133,5 +159,13 @@ impl Runner for Tuned {
 
     fn clear(&mut self, picture: &mut [u8]) {
         picture.fill(0);
+    }
+
+    fn write_pbm(picture: &[u8], buffer: &mut [u8]) {
+        let _ = tuned::pbm::write_pbm(Format::Ef9366, picture, buffer);
+    }
+
+    fn read_pbm(file: &[u8], picture: &mut [u8]) {
+        tuned::pbm::read_pbm(Format::Ef9366, file, picture);
     }
 }

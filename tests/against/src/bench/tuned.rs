@@ -4,6 +4,7 @@
 //! addresses, busy, tilt. It has no clears, no VB and no pen: for a clear the mark is a plain fill.
 
 mod character;
+pub mod pbm;
 mod vector;
 
 use character::CharacterRun;

@@ -3,7 +3,11 @@
 use super::figures::{set, Figures, Start, CYCLIC, DOWN, LETTERS, UP, VECTORS};
 use super::morning;
 use super::runner::Runner;
+use crate::draw::arguments::file_bytes;
+use crate::draw::damage::dots::without_white_space;
+use crate::draw::pbm;
 use crate::random::Random;
+use second::Format;
 use std::hint::black_box;
 
 #[derive(Clone, Copy, PartialEq, Eq, Debug)]
@@ -19,10 +23,21 @@ pub enum Workload {
     Reads,
     Clears,
     Morning,
+    PbmOut,
+    PbmIn(Dots),
+}
+
+/// What parts the dots of a file.
+#[derive(Clone, Copy, PartialEq, Eq, Debug)]
+pub enum Dots {
+    /// Line feeds, as it is written.
+    InLines,
+    /// Nothing.
+    OnEnd,
 }
 
 /// By name, what it is, and the unit its time is given for.
-pub const ALL: [(&str, Workload, &str); 22] = [
+pub const ALL: [(&str, Workload, &str); 25] = [
     ("long-vectors", Workload::Whole(VECTORS), "cycle"),
     ("dotted", Workload::Whole(vectors(DOWN, 3, Start::Inside)), "cycle"),
     ("pen-up", Workload::Whole(vectors(UP, 0, Start::Inside)), "cycle"),
@@ -45,6 +60,9 @@ pub const ALL: [(&str, Workload, &str); 22] = [
     ("status-letters", Workload::Looks(LETTERS), "call"),
     ("clear", Workload::Clears, "clear"),
     ("morning", Workload::Morning, "morning"),
+    ("pbm-out", Workload::PbmOut, "dot"),
+    ("pbm-in", Workload::PbmIn(Dots::InLines), "dot"),
+    ("pbm-in-plain", Workload::PbmIn(Dots::OnEnd), "dot"),
 ];
 
 const fn vectors(ctrl1: u8, line_type: u8, start: Start) -> Figures {
@@ -57,6 +75,8 @@ const fn letters(ctrl1: u8, csize: u8) -> Figures {
 
 pub struct Scene<R> {
     pub picture: Vec<u8>,
+    /// A buffer to be written, or a file to be read.
+    pub file: Vec<u8>,
     table: Vec<u8>,
     forecast: [u8; morning::POINTS],
     /// Commands about to run, or the one card that goes on.
@@ -73,8 +93,32 @@ impl Workload {
     pub fn scene<R: Runner>(self) -> Scene<R> {
         let mut table = vec![0; 480];
         Random::new(9366).fill(&mut table);
-        let picture = vec![self.paper(); 16_384];
-        Scene { picture, table, forecast: morning::figures(), cards: self.cards(), calls: self.calls() }
+        let (cards, calls) = (self.cards(), self.calls());
+        Scene {
+            picture: self.picture(),
+            file: self.file(),
+            table,
+            forecast: morning::figures(),
+            cards,
+            calls,
+        }
+    }
+
+    /// Written out, dots at random: no guess at the next one helps.
+    fn picture(self) -> Vec<u8> {
+        if self == Workload::PbmOut {
+            return random_dots();
+        }
+        vec![self.paper(); 16_384]
+    }
+
+    fn file(self) -> Vec<u8> {
+        match self {
+            Workload::PbmOut => vec![0; file_bytes(Format::Ef9366)],
+            Workload::PbmIn(Dots::InLines) => pbm::file(Format::Ef9366, &random_dots()),
+            Workload::PbmIn(Dots::OnEnd) => without_white_space(pbm::file(Format::Ef9366, &random_dots())),
+            _ => Vec::new(),
+        }
     }
 
     /// Every byte of the picture before: lit where a pass leaves dots dark, so that what it did shows.
@@ -93,6 +137,7 @@ impl Workload {
             Workload::ShortVectors => vec![set(R::fresh(), &[(1, 3), (8, 1), (11, 128)])],
             Workload::Clears => vec![R::fresh()],
             Workload::Writes | Workload::Reads | Workload::Morning => vec![set(R::fresh(), &[(1, 3)])],
+            Workload::PbmOut | Workload::PbmIn(_) => Vec::new(),
         }
     }
 
@@ -117,6 +162,7 @@ impl Workload {
             Workload::ShortVectors => 128,
             Workload::Writes | Workload::Reads => 16 * REGISTERS.len() as u64,
             Workload::Clears | Workload::Morning => 1,
+            Workload::PbmOut | Workload::PbmIn(_) => Format::Ef9366.dots() as u64,
         }
     }
 
@@ -133,8 +179,16 @@ impl Workload {
                 let Scene { cards, forecast, picture, table, .. } = scene;
                 morning::whole(&mut cards[0], black_box(forecast), picture, table);
             }
+            Workload::PbmOut => R::write_pbm(black_box(&scene.picture), &mut scene.file),
+            Workload::PbmIn(_) => R::read_pbm(black_box(&scene.file), &mut scene.picture),
         }
     }
+}
+
+fn random_dots() -> Vec<u8> {
+    let mut picture = vec![0; 16_384];
+    Random::new(9366).fill(&mut picture);
+    picture
 }
 
 fn run_out<R: Runner>(scene: &mut Scene<R>) {

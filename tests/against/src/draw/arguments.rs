@@ -96,7 +96,7 @@ pub fn lpck(random: &mut Random) -> Call {
 }
 
 /// The right length, or by chance one short, one long, none, another format's, or any.
-fn length(random: &mut Random, wrong: WrongLengths, right: usize, longest: usize) -> usize {
+pub fn length(random: &mut Random, wrong: WrongLengths, right: usize, longest: usize) -> usize {
     if !random.percent(wrong.percent) {
         return right;
     }
@@ -114,5 +114,14 @@ pub fn bytes(format: Format) -> usize {
         Format::Ef9366 => 16_384,
         Format::Ef9365High => 32_768,
         Format::Ef9365Low => 8_192,
+    }
+}
+
+/// The bytes of a picture written as PBM.
+pub fn file_bytes(format: Format) -> usize {
+    match format {
+        Format::Ef9366 => 133_131,
+        Format::Ef9365High => 266_251,
+        Format::Ef9365Low => 66_571,
     }
 }

@@ -8,7 +8,7 @@ use crate::flat::Flat;
 use crate::random::Random;
 use second::{fresh, Format, State};
 
-/// What refusal number 1 has to do with a drawn state.
+/// What is known of a call before: of its state, what refusal number 1 has to do with it.
 #[derive(Clone, Copy, PartialEq, Eq, Debug)]
 pub enum Known {
     Good,
@@ -16,6 +16,8 @@ pub enum Known {
     LeftOver(usize),
     /// Refused 1 for the cause at this place of `causes`.
     Refused(usize),
+    /// No state: a PBM read from a file with the damage at this place of `damage::DAMAGES`.
+    File(usize),
     Nothing,
 }
 
