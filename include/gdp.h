@@ -2,8 +2,8 @@
    x86-64 and its System V calling convention it is what `rt staticlib card` makes, under that name (README.md).
 
    A call of the processor takes the state by value and hands back the next one; the two that write and read a picture
-   as a file have nothing to do with it. The library keeps nothing, allocates nothing, has no variables of its own and needs only memset: it is
-   reentrant, from several threads and from interrupts alike.
+   as a file have nothing to do with it. The library keeps nothing, allocates nothing, has no variables of its own and
+   needs only memset: it is reentrant, from several threads and from interrupts alike.
 
    Each memory belongs to the caller and is lent for the time of one call. One that is `const` is only read: the table,
    the picture that is written as a file, the file that is read. Any other may not be lent to two calls at once, nor
@@ -149,8 +149,8 @@ gdp_outputs gdp_address(gdp_state state);
 
 /* Writes the picture as a plain PBM file, Netpbm's P1, which programs that show pictures open: the line P1, the line of
    width and height with a blank between, then the dots from the top line down and from left to right, 1 lit (which
-   viewers show black) and 0 dark, 64 to a line with nothing between. A line feed ends each line, the last too. The file stands at the start of the
-   buffer, and later bytes stay. */
+   viewers show black) and 0 dark, 64 to a line with nothing between. A line feed ends each line, the last too. The file
+   stands at the start of the buffer, and later bytes stay. */
 gdp_pbm_answer gdp_write_pbm(uint8_t format, const uint8_t *picture, size_t picture_length, uint8_t *buffer,
                              size_t buffer_length);
 

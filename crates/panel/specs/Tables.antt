@@ -2,6 +2,5 @@
 pub mod Records
 pub mod Outputs
 pub mod Example
-pub mod Screens
 pub mod Readings
 pub mod Computed

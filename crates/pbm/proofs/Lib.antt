@@ -1,4 +1,5 @@
 pub mod Laws
+pub mod Readings
 pub mod Settled
 mod Answers
 mod Eights
@@ -7,7 +8,6 @@ mod Gaps
 mod Headings
 mod Opened
 mod Passing
-mod Readings
 mod Showing
 mod Shown
 mod Taking

@@ -1,14 +1,11 @@
--- Calls by a format's number: 0 is the EF9366, 1 FMAT high, 2 FMAT low, and any other byte is no format's. 10 is
--- LF.
+-- Calls by a format's number: 0 is the EF9366, 1 FMAT high, 2 FMAT low, and any other byte is no format's.
 -- Assumes nothing.
 use Prim.Native.Nat.{ℕ, _+_}
 use mathlib.Core.List.{List, [], _∷_, _++_}
-use lib.ListN.{replicate}
 use Rattle.basis.specs.Reading.{Reading, joined}
 use Rattle.parts.specs.declared.format.Format.{Format}
 use Rattle.gdp.specs.Flat.{formatNumber}
-use Rattle.pbm.specs.Calls.{Outcome, writtenOut, readIn}
-use Rattle.pbm.specs.Tables.Texts.{p1, n512, n256}
+use Rattle.pbm.specs.Calls.{Outcome}
 use Rattle.pbm.specs.Tables.Calls.{outcome}
 use Rattle.card.specs.Numbered.{numbered}
 
@@ -22,20 +19,5 @@ numberReadings =
     (
       joined (λ (n : ℕ). outcome (numbered shows n (5 ∷ 6 ∷ []) (7 ∷ 8 ∷ []))) 0 256,
       joined (λ (n : ℕ). (100 + n) ∷ 9 ∷ 5 ∷ 6 ∷ 0 ∷ 7 ∷ 8 ∷ []) 0 3 ++ joined (λ (n : ℕ). 2 ∷ 0 ∷ 7 ∷ 8 ∷ []) 3 253,
-    )
-    -- writing: 16,384 bytes fit number 0 alone, and the buffer is short
-    ∷ (
-      joined (λ (n : ℕ). outcome (numbered writtenOut n (replicate 16384 0) (3 ∷ 4 ∷ []))) 0 5,
-      9 ∷ 0 ∷ 3 ∷ 4 ∷ joined (λ (n : ℕ). 2 ∷ 0 ∷ 3 ∷ 4 ∷ []) 1 4,
-    )
-    -- reading P1, 256 256 and no dots into 8,192 bytes: 12 by number 2, and 2 by any other
-    ∷ (
-      joined (λ (n : ℕ). (numbered readIn n (p1 (10 ∷ n256 (32 ∷ n256 (10 ∷ [])))) (replicate 8192 7)) .number ∷ []) 0 8,
-      2 ∷ 2 ∷ 12 ∷ replicate 5 2,
-    )
-    -- reading P1, 512 512 and no dots into 32,768 bytes: 12 by number 1
-    ∷ (
-      joined (λ (n : ℕ). (numbered readIn n (p1 (10 ∷ n512 (32 ∷ n512 (10 ∷ [])))) (replicate 32768 7)) .number ∷ []) 0 4,
-      2 ∷ 12 ∷ 2 ∷ 2 ∷ [],
     )
     ∷ []

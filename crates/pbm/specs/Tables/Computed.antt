@@ -11,10 +11,10 @@ use Rattle.pbm.specs.Tables.Files.{headReadings, signReadings, own, eigh
 use Rattle.pbm.specs.Tables.Texts.{p1, n512, n256, byWhite, byDigit, characterReadings, passedReadings, numberReadings, fromEach, placeReadings}
 use Rattle.pbm.specs.Tables.Heads.{opened, openReadings, sized, said, sizeReadings}
 use Rattle.pbm.specs.Tables.Dots.{dotReadings, eightOf, shownReadings}
-use Rattle.pbm.specs.Tables.Calls.{outcome, formats, overFormats, lengthReadings, night, darkLine, seen, outReadings, given, givenWide, low, inReadings, office, officePicture, wholeReadings}
+use Rattle.pbm.specs.Tables.Calls.{outBy, inBy, outcome, formats, overFormats, outcomeReadings, outReadings, given, low, inReadings}
 use Rattle.pbm.specs.Tables.Gaps.{gapReadings, spacing, soundReadings, eights, three, spreadReadings, spacedReadings}
-use Rattle.pbm.specs.Tables.Readings.{ofFiles, ofTexts, ofGaps, readings, callReadings}
+use Rattle.pbm.specs.Tables.Readings.{ofFiles, ofTexts, ofGaps, ofCalls, readings}
 
 unfoldable pub computed : Unit {0}
-unfolding reading of-text of-parts head sign signs fileLines body file isWhite passed isDigit digits behindDigits fromWidth fromHeight fromDots marked opens sizedAs taken isDot areDots weighed packed shown settled misfit fileOf outNumber writtenOut signsFor inNumber readIn isGap areGaps parts sound spread lineSigns padded spaced headReadings signReadings own eight lineReadings bodyReadings fileReadings p1 n512 n256 byWhite byDigit characterReadings passedReadings numberReadings fromEach placeReadings opened openReadings sized said sizeReadings dotReadings eightOf shownReadings outcome formats overFormats lengthReadings night darkLine seen outReadings given givenWide low inReadings office officePicture wholeReadings gapReadings spacing soundReadings eights three spreadReadings spacedReadings ofFiles ofTexts ofGaps readings callReadings
+unfolding reading of-text of-parts head sign signs fileLines body file isWhite passed isDigit digits behindDigits fromWidth fromHeight fromDots marked opens sizedAs taken isDot areDots weighed packed shown settled misfit fileOf outNumber writtenOut signsFor inNumber readIn isGap areGaps parts sound spread lineSigns padded spaced headReadings signReadings own eight lineReadings bodyReadings fileReadings p1 n512 n256 byWhite byDigit characterReadings passedReadings numberReadings fromEach placeReadings opened openReadings sized said sizeReadings dotReadings eightOf shownReadings outBy inBy outcome formats overFormats outcomeReadings outReadings given low inReadings gapReadings spacing soundReadings eights three spreadReadings spacedReadings ofFiles ofTexts ofGaps ofCalls readings
 computed = tt

@@ -6,7 +6,7 @@ use Rattle.pbm.specs.Tables.Files.{headReadings, signReadings, lineReadi
 use Rattle.pbm.specs.Tables.Texts.{characterReadings, passedReadings, numberReadings, placeReadings}
 use Rattle.pbm.specs.Tables.Heads.{openReadings, sizeReadings}
 use Rattle.pbm.specs.Tables.Dots.{dotReadings, shownReadings}
-use Rattle.pbm.specs.Tables.Calls.{lengthReadings, outReadings, inReadings}
+use Rattle.pbm.specs.Tables.Calls.{outcomeReadings, outReadings, inReadings}
 use Rattle.pbm.specs.Tables.Gaps.{gapReadings, soundReadings, spreadReadings, spacedReadings}
 
 unfoldable pub ofFiles : List Reading
@@ -18,9 +18,8 @@ ofTexts = characterReadings ++ (passedReadings ++ (numberReadings ++ (placeReadi
 unfoldable pub ofGaps : List Reading
 ofGaps = gapReadings ++ (soundReadings ++ (spreadReadings ++ spacedReadings))
 
-unfoldable pub readings : List Reading
-readings = ofFiles ++ (ofTexts ++ ofGaps)
+unfoldable pub ofCalls : List Reading
+ofCalls = outcomeReadings ++ (outReadings ++ inReadings)
 
--- of both calls: whole pictures of FMAT low
-unfoldable pub callReadings : List Reading
-callReadings = lengthReadings ++ (outReadings ++ inReadings)
+unfoldable pub readings : List Reading
+readings = ofFiles ++ (ofTexts ++ (ofGaps ++ ofCalls))
