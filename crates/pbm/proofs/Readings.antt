@@ -13,7 +13,7 @@ use Rattle.parts.specs.declared.format.Format.the-variants.{Ef9366, FmatHigh, F
 use Rattle.parts.specs.Format.{width, height, bytes}
 use Rattle.parts.specs.Refusal.{lowest}
 use Rattle.pbm.specs.Contents.{opens, sizedAs, areDots}
-use Rattle.pbm.specs.Calls.{Outcome, refused, settled, misfit, fileOf, outNumber, writtenOut, signsFor, inNumber, readIn}
+use Rattle.pbm.specs.Calls.{refused, settled, misfit, fileOf, outNumber, writtenOut, signsFor, inNumber, readIn}
 use Rattle.pbm.specs.Tables.Calls.{outBy, inBy}
 use Rattle.pbm.specs.Tables.Readings.{readings}
 use Rattle.pbm.specs.Tables.Computed.{computed}
