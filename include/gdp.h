@@ -79,9 +79,10 @@ enum {
 /* The state. Make it by gdp_fresh and hand on what each call answers; it may be copied, kept and read freely.
    Refused with 1: x or y above 4,095; ctrl1 above 127; ctrl2 above 15; bit 1 of xlp high; a command that steps and takes
    no cycles, or is a character with tilt high, or has a done that is not below its cycles; VB high inside an open frame
-   of a clear or the pen; and a number that names no format, no kind of work or no pen sequence, for such bytes cannot be
-   read as a state. What is not in use is not looked at: done and code where no command steps, the bits of a clear where
-   none runs, the bits that are named so below. An accepted call hands it back as 0, a refusal as it came. */
+   of a clear (either one, where it has two) or the pen; and a number that names no format, no kind of work or no pen
+   sequence, for such bytes cannot be read as a state. What is not in use is not looked at: done and code where no
+   command steps, the bits of a clear where none runs, the bits that are named so below. An accepted call hands it back
+   as 0, a refusal as it came. */
 typedef struct gdp_state {
     uint16_t x, y;    /* 12 bits each; while a command steps, the place of its next cycle */
     uint16_t done;    /* the cycles that the stepping command has used; else not in use */
@@ -93,7 +94,7 @@ typedef struct gdp_state {
     uint8_t xlp, ylp; /* where the light pen was */
     uint8_t code;     /* the command that steps; else not in use */
     uint8_t modes;    /* bits 0-2 the format; 3-4 what runs: 0 nothing, 1 a command that steps, 2 a clear; 5 the clear
-                         is 0C; 6 its frame is open; 7 not in use */
+                         is 0C; 6 a frame of it is open; 7 with FMAT high, its first frame is over; else not in use */
     uint8_t signals;  /* bit 1 VB; 2-3 the pen sequence: 0 none, 1 waiting for its frame, 2 in it; flags, where STATUS
                          has them: 4 pen end, 5 VB, 6 ready; 0 and 7 not in use */
 } gdp_state;
@@ -128,7 +129,7 @@ extern "C" {
 gdp_answer gdp_fresh(uint8_t format);
 
 /* Writes a register; at address 0 it is a command. A vector, a character, a block or 0F then waits for write cycles, a
-   clear for its frame. */
+   clear for its frames: one, or two with FMAT high. */
 gdp_answer gdp_write(gdp_state state, uint8_t address, uint8_t value);
 
 /* Reads a register. STATUS then has its flags cleared, and after XLP or YLP the lowest bit of XLP is 0. */

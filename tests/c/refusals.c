@@ -60,7 +60,8 @@ static void bad(gdp_state s) {
 }
 
 /* The bits of modes, and of signals. */
-enum { FORMAT = 7, STEPS = 1 << 3, CLEAR = 2 << 3, WORK = 3 << 3, IS_0C = 1 << 5, CLEAR_OPEN = 1 << 6 };
+enum { FORMAT = 7, STEPS = 1 << 3, CLEAR = 2 << 3, WORK = 3 << 3 };
+enum { IS_0C = 1 << 5, CLEAR_OPEN = 1 << 6, FIRST_OVER = 1 << 7 };
 enum { VB = 1 << 1, PEN_OPEN = 2 << 2, PEN = 3 << 2 };
 
 /* The causes that gdp_state's comment lists, each by itself in a state that is else good. */
@@ -81,6 +82,7 @@ static void bad_states(gdp_state good) {
     WITH((s.modes = f | STEPS, s.code = 0x0F, s.done = 1));
     WITH((s.modes = f | STEPS, s.code = 0x41, s.done = 48));
     WITH((s.modes = f | CLEAR | CLEAR_OPEN, s.signals = VB));
+    WITH((s.modes = f | CLEAR | CLEAR_OPEN | FIRST_OVER, s.signals = VB));
     WITH(s.signals = PEN_OPEN | VB);
     for (unsigned number = 3; number <= FORMAT; number++)
         WITH(s.modes = (uint8_t)number);
@@ -139,7 +141,8 @@ static void left_over(gdp_state clean, gdp_state left, size_t right) {
 /* What is not in use in a state where nothing runs, a command steps, or a clear runs, each by itself and together. */
 static void left_overs(gdp_state clean, size_t right) {
     int steps = (clean.modes & WORK) == STEPS, clears = (clean.modes & WORK) == CLEAR;
-    uint8_t modes = clears ? 1 << 7 : 1 << 7 | IS_0C | CLEAR_OPEN, signals = 1 | 1 << 7;
+    int two_frames = clears && (clean.modes & FORMAT) == GDP_FMAT_HIGH;
+    uint8_t modes = two_frames ? 0 : clears ? FIRST_OVER : FIRST_OVER | IS_0C | CLEAR_OPEN, signals = 1 | 1 << 7;
     gdp_state s;
 #define WITH(change) (s = clean, change, left_over(clean, s, right))
     for (unsigned bit = 1; bit < 256; bit *= 2) {
@@ -233,10 +236,12 @@ int main(void) {
         const gdp_state states[] = {idle, tilted, letter, clear, put(idle, GDP_CMD, 0x0C, GDP_ACCEPTED),
                                     put(idle, GDP_CMD, 0x08, GDP_ACCEPTED)};
         for (unsigned i = 0; i < sizeof states / sizeof *states; i++) {
-            gdp_state high = set_vb(states[i], 1, lengths[f], GDP_ACCEPTED);
-            left_overs(states[i], lengths[f]);
-            left_overs(high, lengths[f]);
-            left_overs(set_vb(high, 0, lengths[f], GDP_ACCEPTED), lengths[f]);
+            gdp_state s = states[i];
+            left_overs(s, lengths[f]);
+            for (unsigned level = 1; level < 5; level++) { /* VB high, low and again: a clear may have two frames */
+                s = set_vb(s, (uint8_t)(level % 2), lengths[f], GDP_ACCEPTED);
+                left_overs(s, lengths[f]);
+            }
         }
     }
     return judged();

@@ -99,14 +99,16 @@ static void from(gdp_state s) {
     call(ADDRESS, s, 0, 0);
 }
 
-/* A command, and what can follow it: part of its cycles, or its frames. */
+/* A command, and what can follow it: part of its cycles, or its frames, of which a clear may have two. */
 static void commanded(gdp_state s, unsigned code) {
     s = call(WRITE, s, GDP_CMD, code);
     from(s);
     from(call(GRANT, s, 3, sizeof table));
-    s = call(SET_VB, s, 1, length);
-    s = call(SET_VB, s, 0, length);
-    from(s);
+    for (unsigned frame = 0; frame < 2; frame++) {
+        s = call(SET_VB, s, 1, length);
+        s = call(SET_VB, s, 0, length);
+        from(s);
+    }
 }
 
 static void format(unsigned number, size_t bytes) {

@@ -8,6 +8,7 @@ use lib.Dec.{eqb}
 use Rattle.parts.specs.declared.format.Format.the-variants.{Ef9366, FmatHigh, FmatLow}
 use Rattle.rules.specs.Sequence.{Idle, Steps, Clear, Off, Waiting, Open}
 use Rattle.rules.specs.State.{State, flags}
+use Rattle.rules.specs.Working.Frames.{FrameToCome}
 use Rattle.rules.specs.Figure.{tables}
 use Rattle.rules.specs.Calls.{answer, Memory, memory, Outcome, outcome, Located, written, readOut, granted, blanked, struck, located}
 use Rattle.gdp.specs.declared.state.Answer.{Answer}
@@ -27,25 +28,25 @@ unfolding answerOf answer flatAnswer
 answer-across n v next s = rw (flat-named s, once (eqb n 0) s next) refl
 
 -- so with each call
-pub written-across : (s : State) (a v : ℕ) → answerOf (flat s) (written (stateOf (flat s)) a v) ≡ flatAnswer (written s a v)
+pub written-across : (s : State) → FrameToCome s → (a v : ℕ) → answerOf (flat s) (written (stateOf (flat s)) a v) ≡ flatAnswer (written s a v)
 unfolding written
-written-across s a v = ap (λ (t : State). answerOf (flat s) (written t a v)) (back s) ∙ answer-across _ _ _ s
+written-across s k a v = ap (λ (t : State). answerOf (flat s) (written t a v)) (back s k) ∙ answer-across _ _ _ s
 
-pub read-across : (s : State) (a : ℕ) → answerOf (flat s) (readOut (stateOf (flat s)) a) ≡ flatAnswer (readOut s a)
+pub read-across : (s : State) → FrameToCome s → (a : ℕ) → answerOf (flat s) (readOut (stateOf (flat s)) a) ≡ flatAnswer (readOut s a)
 unfolding readOut
-read-across s a = ap (λ (t : State). answerOf (flat s) (readOut t a)) (back s) ∙ answer-across _ _ _ s
+read-across s k a = ap (λ (t : State). answerOf (flat s) (readOut t a)) (back s k) ∙ answer-across _ _ _ s
 
-pub struck-across : (s : State) (h v : ℕ) → answerOf (flat s) (struck (stateOf (flat s)) h v) ≡ flatAnswer (struck s h v)
+pub struck-across : (s : State) → FrameToCome s → (h v : ℕ) → answerOf (flat s) (struck (stateOf (flat s)) h v) ≡ flatAnswer (struck s h v)
 unfolding struck
-struck-across s h v = ap (λ (t : State). answerOf (flat s) (struck t h v)) (back s) ∙ answer-across _ _ _ s
+struck-across s k h v = ap (λ (t : State). answerOf (flat s) (struck t h v)) (back s k) ∙ answer-across _ _ _ s
 
 -- the address outputs as bytes
 abbrev pub flatOutputs : Located → Outputs
 flatOutputs l = record { number = l .number; low = l .address .low; high = l .address .high; msl = l .address .msl }
 
-pub located-across : (s : State) → outputsOf (flat s) (located (stateOf (flat s))) ≡ flatOutputs (located s)
+pub located-across : (s : State) → FrameToCome s → outputsOf (flat s) (located (stateOf (flat s))) ≡ flatOutputs (located s)
 unfolding outputsOf
-located-across s = rw (flat-named s, back s) refl
+located-across s k = rw (flat-named s, back s k) refl
 
 -- a call that is lent memories leaves what the definition leaves, its answer as bytes
 pub record Crosses (o : Outcome) (r : Answer) (left : Memory) : Type 0 where
@@ -58,25 +59,29 @@ unfolding outcome
 leaves-across n v next changed s m l =
     record { answers = l .answers ∙ answer-across n v next s; memories = l .memories ∙ rw (flat-named s) refl }
 
-pub granted-across : (s : State) (n : ℕ) (picture table : List ℕ) {r : Answer} {p : List ℕ} → Grants (flat s) n picture table r p
+pub granted-across : (s : State) → FrameToCome s → (n : ℕ) (picture table : List ℕ) {r : Answer} {p : List ℕ} → Grants (flat s) n picture table r p
     → Crosses (granted s n (memory picture) (tables table)) r (memory p)
 unfolding granted
-granted-across s n picture table l = leaves-across _ _ _ _ s (memory picture) (rw (back s) at l)
+granted-across s k n picture table l = leaves-across _ _ _ _ s (memory picture) (rw (back s k) at l)
 
-pub blanked-across : (s : State) (level : Bool) (picture : List ℕ) {r : Answer} {p : List ℕ} → Blanks (flat s) level picture r p
+pub blanked-across : (s : State) → FrameToCome s → (level : Bool) (picture : List ℕ) {r : Answer} {p : List ℕ} → Blanks (flat s) level picture r p
     → Crosses (blanked s level (memory picture)) r (memory p)
 unfolding blanked
-blanked-across s level picture l = leaves-across _ _ _ _ s (memory picture) (rw (back s) at l)
+blanked-across s k level picture l = leaves-across _ _ _ _ s (memory picture) (rw (back s k) at l)
 
 -- bytes of ones stand for no state
 pub ones-stand-for-none : named allOnes ≡ false
 unfolding namedModes allOnes
 ones-stand-for-none = refl
 
--- worked examples: an open clear 0C on FMAT high; a command that steps on FMAT low; nothing runs on EF9366
-pub clear-modes : modesOf FmatHigh (Clear true true) ≡ 0x71
+-- worked examples: a clear 0C inside its first frame on FMAT high, and inside its second; a command that steps on FMAT low; nothing runs on EF9366
+pub clear-modes : modesOf FmatHigh (Clear true (record { inside = true; over = 0 })) ≡ 0x71
 unfolding modesOf
 clear-modes = refl
+
+pub second-modes : modesOf FmatHigh (Clear true (record { inside = true; over = 1 })) ≡ 0xF1
+unfolding modesOf
+second-modes = refl
 
 pub steps-modes : modesOf FmatLow (Steps 0x41 7) ≡ 0x0A
 unfolding modesOf

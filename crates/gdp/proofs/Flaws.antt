@@ -9,7 +9,7 @@ use Rattle.rules.specs.Sequence.{Work, Idle, Steps, Clear, ready, clearOpen, li
 use Rattle.rules.specs.State.{Regs, State, withWork}
 use Rattle.rules.specs.Refusals.{badRegs, badWork, bad, busy}
 use Rattle.gdp.specs.declared.state.Gdp.{Gdp}
-use Rattle.gdp.specs.Flat.{lightPenAt, workAt, formatIn, workIn, lightPenIn, namedModes, namedSignals, named, regsOf, stateOf}
+use Rattle.gdp.specs.Flat.{lightPenAt, workAt, formatIn, workIn, lightPenIn, namedModes, namedSignals, named, regsOf, framesIn, stateOf}
 use Rattle.gdp.specs.Calls.{flawed}
 use Rattle.gdp.specs.Working.Bits.{clearOpenIn, strayLightPen, strayWork}
 use Rattle.gdp.specs.Working.Check.{stray, badStep, badSteps}
@@ -35,7 +35,7 @@ unfolding stateOf workAt
 steps-run b e = rw e refl
 
 pub others-run : (b : Gdp) → (workIn (b .modes) ≡ 1 → ⊥)
-    → stateOf b .work ≡ cond (eqb (workIn (b .modes)) 0) Idle (Clear (bitAt 5 (b .modes)) (bitAt 6 (b .modes)))
+    → stateOf b .work ≡ cond (eqb (workIn (b .modes)) 0) Idle (Clear (bitAt 5 (b .modes)) (framesIn (b .modes)))
 unfolding stateOf workAt
 others-run b h = rw (ne-eqb (workIn (b .modes)) 1 h) refl
 
@@ -65,7 +65,7 @@ parts true false false p regs (Clear f o) = refl
 parts true false true p regs Idle = case p
 parts true false true true regs (Steps c d) = or-true (badStep regs c d)
 parts true false true false regs (Steps c d) = or-false (badStep regs c d)
-parts true false true p regs (Clear f o) = case (o || p)
+parts true false true p regs (Clear f o) = case (o .inside || p)
 
 pub flawed-parts : (b : Gdp) → flawed b ≡ cond (stray b) true (badSteps (regsOf b) (stateOf b .work))
 unfolding flawed stray bad stateOf
@@ -81,7 +81,7 @@ steps-flawed b e h = rw (flawed-parts b, e, steps-run b h) refl
 pub others-sound : (b : Gdp) → stray b ≡ false → (workIn (b .modes) ≡ 1 → ⊥) → flawed b ≡ false
 others-sound b e h = rw (flawed-parts b, e, others-run b h) (none (eqb (workIn (b .modes)) 0))
   where
-    none : (z : Bool) → badSteps (regsOf b) (cond z Idle (Clear (bitAt 5 (b .modes)) (bitAt 6 (b .modes)))) ≡ false
+    none : (z : Bool) → badSteps (regsOf b) (cond z Idle (Clear (bitAt 5 (b .modes)) (framesIn (b .modes)))) ≡ false
     none true = refl
     none false = refl
 

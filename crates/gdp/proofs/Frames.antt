@@ -1,47 +1,47 @@
 -- VB and the frames of a clear and of the light pen, by the bytes.
 -- Assumes nothing.
 use mathlib.Core.Path.{_≡_, refl, sym, ap, _∙_}
-use Prim.Native.Nat.{ℕ}
+use Prim.Native.Nat.{ℕ, _+_, _/_}
 use mathlib.Core.Bool.{Bool, true, false, _&&_}
 use mathlib.Core.List.{List}
+use lib.Dec.{leb}
 use lib.ListN.{length}
 use borrow.Author.Tests.{eq-eqb}
+use Rattle.basis.proofs.Cases.{and-parts}
 use Rattle.picture.specs.Bit.{bitAt}
 use Rattle.picture.specs.Dot.{whole}
-use Rattle.parts.specs.Format.{bytes}
+use Rattle.parts.specs.Format.{bytes, frames}
 use Rattle.parts.specs.Refusal.{lowest}
-use Rattle.rules.specs.Sequence.{clearOpen, lightPenOpen, endsClear}
+use Rattle.rules.specs.Sequence.{lightPenOpen}
 use Rattle.rules.specs.State.{State}
 use Rattle.rules.specs.Cycles.{lights}
 use Rattle.rules.specs.Refusals.{wrongPicture}
-use Rattle.rules.specs.Blanking.{fallen, risen, afterVb, pictureVb}
+use Rattle.rules.specs.Blanking.{fallen, endsClear, risen, afterVb, pictureVb}
 use Rattle.gdp.specs.declared.state.Gdp.{Gdp}
-use Rattle.gdp.specs.Flat.{lightPenAt, workIn, lightPenIn, flat, formatOf, regsOf, stateOf}
+use Rattle.gdp.specs.Flat.{lightPenAt, workIn, lightPenIn, flat, formatOf, regsOf, framesIn, stateOf}
 use Rattle.gdp.specs.Calls.{flawed, Blanks}
 use Rattle.gdp.specs.Working.Bits.{clearOpenIn}
-use Rattle.gdp.proofs.Packing.{back}
-use Rattle.gdp.proofs.Bytes.{clear-open, clear-lit}
+use Rattle.gdp.proofs.Packing.{light-pen-at, light-pen-part}
+use Rattle.gdp.proofs.Bytes.{clear-open, clear-last, clear-lit}
 use Rattle.gdp.proofs.Told.{vbCode, vb-accepted}
 
 -- the open frames as the bytes show them
 pub light-pen-seen : (s : State) {b : Gdp} → b ≡ flat s → lightPenOpen (s .lightPen) ≡ lightPenOpen (lightPenAt (lightPenIn (b .signals)))
-unfolding stateOf
-light-pen-seen s e =
-    ap (λ (t : State). lightPenOpen (t .lightPen)) (sym (back s))
-    ∙ ap (λ (b : Gdp). lightPenOpen (lightPenAt (lightPenIn (b .signals)))) (sym e)
+unfolding flat
+light-pen-seen s e = rw (e, light-pen-part (s .vb) (s .lightPen) (s .flags), light-pen-at (s .lightPen)) refl
 
-pub clear-seen : (b : Gdp) → clearOpen (stateOf b .work) ≡ clearOpenIn (b .modes)
+pub clear-seen : (b : Gdp) → (clearOpenIn (b .modes) && leb (frames (formatOf b)) (b .modes / 128 + 1)) ≡ endsClear (stateOf b)
 unfolding stateOf
-clear-seen b = sym (clear-open (b .modes) (b .code) (b .done) (bitAt 5 (b .modes)))
+clear-seen b = clear-last (b .modes) (b .code) (b .done) (bitAt 5 (b .modes))
 
--- while VB is low, a rise changes the picture where a clear is in its frame, and nowhere else
-pub clear-paints : (b : Gdp) (picture : List ℕ) → bitAt 1 (b .signals) ≡ false → endsClear (stateOf b .work) ≡ true
+-- while VB is low, a rise changes the picture where a clear is in its last frame, and nowhere else
+pub clear-paints : (b : Gdp) (picture : List ℕ) → bitAt 1 (b .signals) ≡ false → endsClear (stateOf b) ≡ true
     → whole (bitAt 5 (b .modes) && lights (regsOf b)) picture ≡ pictureVb (stateOf b) true picture
 unfolding pictureVb stateOf
 clear-paints b picture v o =
-    rw (v, o, clear-lit (workIn (b .modes)) (b .code) (b .done) (bitAt 5 (b .modes)) (bitAt 6 (b .modes)) _ o) refl
+    rw (v, o, clear-lit (workIn (b .modes)) (b .code) (b .done) (bitAt 5 (b .modes)) (framesIn (b .modes)) _ (and-parts _ _ o .0)) refl
 
-pub clear-keeps : (b : Gdp) (picture : List ℕ) → bitAt 1 (b .signals) ≡ false → endsClear (stateOf b .work) ≡ false
+pub clear-keeps : (b : Gdp) (picture : List ℕ) → bitAt 1 (b .signals) ≡ false → endsClear (stateOf b) ≡ false
     → picture ≡ pictureVb (stateOf b) true picture
 unfolding pictureVb stateOf
 clear-keeps b picture v o = rw (v, o) refl

@@ -1,18 +1,23 @@
--- The bytes of a state stand for it, whatever its numbers.
+-- The bytes of a state stand for it, whatever its numbers, where a clear that runs has a frame to come.
 -- Assumes nothing.
 use mathlib.Core.Path.{_≡_, refl, ap, _∙_}
-use Prim.Native.Nat.{ℕ, _/_, _%_, _^_, _<_}
+use Prim.Native.Nat.{ℕ, _-_, _/_, _%_, _^_, _<_, min}
 use mathlib.Core.Bool.{Bool, true, false}
 use native.Mathlib.Omega.{arith}
 use lib.Dec.{eqb}
 use borrow.Author.Tests.{lt-ltb}
+use Rattle.basis.proofs.Cases.{cond-case}
 use Rattle.picture.specs.Bit.{digit, bitAt}
 use Rattle.picture.proofs.Laws.{digit-lt, bit-shift}
 use Rattle.parts.specs.declared.format.Format.{Format}
 use Rattle.parts.specs.declared.format.Format.the-variants.{Ef9366, FmatHigh, FmatLow}
-use Rattle.rules.specs.Sequence.{Work, Idle, Steps, Clear, LightPen, Off, Waiting, Open, clearOpen}
+use Rattle.parts.specs.Format.{frames}
+use Rattle.parts.proofs.Laws.{frames-some}
+use Rattle.rules.specs.Sequence.{Frames, Work, Idle, Steps, Clear, LightPen, Off, Waiting, Open, clearOpen, framesOver}
 use Rattle.rules.specs.State.{Flags, State}
-use Rattle.gdp.specs.Flat.{formatNumber, formatAt, lightPenNumber, lightPenAt, workNumber, codeOf, doneOf, fills, workAt, modesOf, signalsOf, flat, formatIn, workIn, lightPenIn, namedModes, namedSignals, named, stateOf}
+use Rattle.rules.specs.Working.Frames.{FrameToCome}
+use Rattle.gdp.specs.declared.state.Gdp.{Gdp}
+use Rattle.gdp.specs.Flat.{formatNumber, formatAt, lightPenNumber, lightPenAt, workNumber, codeOf, doneOf, fills, workAt, modesOf, signalsOf, flat, formatIn, workIn, lightPenIn, namedModes, namedSignals, named, formatOf, framesIn, stateOf}
 
 -- each number is below 3
 pub format-below : (f : Format) → formatNumber f < 3
@@ -44,13 +49,16 @@ format-at Ef9366 = refl
 format-at FmatHigh = refl
 format-at FmatLow = refl
 
-light-pen-at : (p : LightPen) → lightPenAt (lightPenNumber p) ≡ p
+pub light-pen-at : (p : LightPen) → lightPenAt (lightPenNumber p) ≡ p
 unfolding lightPenAt
 light-pen-at Off = refl
 light-pen-at Waiting = refl
 light-pen-at Open = refl
 
-work-at : (w : Work) → workAt (workNumber w) (codeOf w) (doneOf w) (fills w) (clearOpen w) ≡ w
+abbrev framesOf : Work → Frames
+framesOf w = record { inside = clearOpen w; over = framesOver w }
+
+work-at : (w : Work) → workAt (workNumber w) (codeOf w) (doneOf w) (fills w) (framesOf w) ≡ w
 unfolding workAt
 work-at Idle = refl
 work-at (Steps c d) = refl
@@ -74,6 +82,17 @@ module _ (f : Format) (w : Work) where
   unfolding modesOf
   open-part =
       bit-back 6 (modesOf f w) (clearOpen w) (omega (arith, format-below f, work-below w, digit-lt (fills w), digit-lt (clearOpen w)))
+
+  over-part : modesOf f w / 128 ≡ framesOver w
+  unfolding modesOf
+  over-part = omega (arith, format-below f, work-below w, digit-lt (fills w), digit-lt (clearOpen w))
+
+  frames-part : framesOver w < frames f → framesIn (modesOf f w) ≡ framesOf w
+  unfolding framesIn
+  frames-part h = rw (open-part, over-part, format-part, format-at f) (λ j. record { inside = clearOpen w; over = least (framesOver w) (frames f) h j })
+    where
+      least : (n k : ℕ) → n < k → min n (k - 1) ≡ n
+      least n k h = omega arith
 
 -- nor do those of `signals`
 module _ (vb : Bool) (p : LightPen) (g : Flags) where
@@ -102,14 +121,14 @@ module _ (vb : Bool) (p : LightPen) (g : Flags) where
       (omega (arith, digit-lt vb, light-pen-below p, digit-lt (g .lightPen), digit-lt (g .vb), digit-lt (g .ready)))
 
 -- a state comes back as it went
-pub back : (s : State) → stateOf (flat s) ≡ s
+pub back : (s : State) → FrameToCome s → stateOf (flat s) ≡ s
 unfolding flat stateOf
-back s =
+back s h =
     simp (
       format-part,
       work-part,
       fill-part,
-      open-part,
+      frames-part (s .format) (s .work) h,
       vb-part,
       light-pen-part,
       light-pen-flag-part,
@@ -119,6 +138,17 @@ back s =
       light-pen-at,
       work-at,
     )
+
+-- what bytes stand for is such a state
+pub stands-frame : (b : Gdp) → FrameToCome (stateOf b)
+unfolding stateOf workAt framesIn
+stands-frame b =
+    cond-case (λ (w : Work). framesOver w < frames (formatOf b)) (eqb (workIn (b .modes)) 0) (λ _. frames-some (formatOf b)) λ _.
+    cond-case (λ (w : Work). framesOver w < frames (formatOf b)) (eqb (workIn (b .modes)) 1) (λ _. frames-some (formatOf b)) λ _.
+    least (b .modes / 128) (frames (formatOf b)) (frames-some (formatOf b))
+  where
+    least : (n k : ℕ) → 0 < k → min n (k - 1) < k
+    least n k h = omega arith
 
 -- and its bytes name their format, work and pen sequence
 pub flat-named : (s : State) → named (flat s) ≡ true

@@ -25,14 +25,14 @@ use Rattle.drawing.specs.declared.tip.Tip.{Tip}
 use Rattle.drawing.specs.Figure.{Figure, Stroke, Pause, cyclesOf, way, endWay, writes}
 use Rattle.drawing.specs.Run.{startOf, placeOf, restOf, mark, dotOf, dotsFrom, Ran}
 use Rattle.drawing.specs.Working.Cycle.{Granted}
-use Rattle.rules.specs.Sequence.{Work, Idle, Steps, Clear}
+use Rattle.rules.specs.Sequence.{Frames, Work, Idle, Steps, Clear}
 use Rattle.rules.specs.State.{State, withPlace, withRegs, withWork, readyRaises}
 use Rattle.rules.specs.Figure.{Tables, tables, figureBy, figure, cycles, glyph, tilted}
 use Rattle.rules.specs.Cycles.{cyclic, tip, here, start, leftOf, left, used, dotsOf, dots, rested, afterOf, after}
 use Rattle.rules.specs.Refusals.{badRegs, wrongPicture, wrongTable}
 use Rattle.gdp.specs.declared.state.Gdp.{Gdp}
 use Rattle.gdp.specs.declared.state.Answer.{Answer}
-use Rattle.gdp.specs.Flat.{workIn, flat, named, formatOf, regsOf, stateOf}
+use Rattle.gdp.specs.Flat.{workIn, flat, named, formatOf, regsOf, framesIn, stateOf}
 use Rattle.gdp.specs.Calls.{refusal, Grants}
 use Rattle.gdp.specs.Working.Check.{stray, badStep}
 use Rattle.gdp.specs.Working.Steps.{runOf, memoryNumber, HasTable, flatAnswer, restsAt}
@@ -241,7 +241,7 @@ has-table c tab h l t =
     record { low = λ no. leb-true 0x20 c (range no .0); high = λ no. omega (arith, t, ltb-true c 0x80 (range no .1)) }
 
 -- an idle or clearing processor uses no cycle
-others-still : (s : State) (n : ℕ) (t : Tables) (x : Bool) (g o : Bool) → s .work ≡ cond x Idle (Clear g o)
+others-still : (s : State) (n : ℕ) (t : Tables) (x g : Bool) (o : Frames) → s .work ≡ cond x Idle (Clear g o)
     → (used s n ≡ 0) × (after s n ≡ s) × (dots s t n ≡ [])
 unfolding used left leftOf after afterOf dots dotsOf
 others-still s n t true g o e =
@@ -254,6 +254,6 @@ pub others-granted : (b : Gdp) (n : ℕ) (pic tab : List ℕ) → stray b ≡ fa
     → memoryNumber b (length pic) (length tab) ≡ 0 → Grants b n pic tab (record { number = 0; value = 0; state = flat (stateOf b) }) pic
 others-granted b n pic tab sound other z =
     let still =
-    others-still (stateOf b) n (tables tab) (eqb (workIn (b .modes)) 0) (bitAt 5 (b .modes)) (bitAt 6 (b .modes)) (others-run b other) in
+    others-still (stateOf b) n (tables tab) (eqb (workIn (b .modes)) 0) (bitAt 5 (b .modes)) (framesIn (b .modes)) (others-run b other) in
     grant-accepted b n pic tab (grant-memories b n pic tab (others-sound b sound other) ∙ z)
     (rw (still .0, still .1)) (rw (still .2))

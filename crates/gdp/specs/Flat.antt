@@ -1,12 +1,13 @@
 -- The state in sixteen bytes: the state that they stand for, whatever they are, and the bytes of a state.
 -- Assumes nothing.
-use Prim.Native.Nat.{ℕ, _+_, _*_, _/_, _%_}
+use Prim.Native.Nat.{ℕ, _+_, _-_, _*_, _/_, _%_, min}
 use mathlib.Core.Bool.{Bool, false, cond, _&&_}
 use lib.Dec.{eqb, ltb}
 use Rattle.picture.specs.Bit.{digit, bitAt}
 use Rattle.parts.specs.declared.format.Format.{Format}
 use Rattle.parts.specs.declared.format.Format.the-variants.{Ef9366, FmatHigh, FmatLow}
-use Rattle.rules.specs.Sequence.{Work, Idle, Steps, Clear, LightPen, Off, Waiting, Open, clearOpen}
+use Rattle.parts.specs.Format.{frames}
+use Rattle.rules.specs.Sequence.{Frames, Work, Idle, Steps, Clear, LightPen, Off, Waiting, Open, clearOpen, framesOver}
 use Rattle.rules.specs.State.{Regs, Flags, State}
 use Rattle.gdp.specs.declared.state.Gdp.{Gdp}
 
@@ -50,12 +51,12 @@ fills (Steps c p) = false
 fills (Clear f o) = f
 
 -- what runs, of a number
-unfoldable pub workAt : ℕ → ℕ → ℕ → Bool → Bool → Work
+unfoldable pub workAt : ℕ → ℕ → ℕ → Bool → Frames → Work
 workAt n c p f o = cond (eqb n 0) Idle (cond (eqb n 1) (Steps c p) (Clear f o))
 
--- `modes`: bits 0 to 2 the format, 3 and 4 what runs, 5 the clear is 0C, 6 its frame is open
+-- `modes`: bits 0 to 2 the format, 3 and 4 what runs, 5 the clear is 0C, 6 a frame of it is open, 7 one is over
 unfoldable pub modesOf : Format → Work → ℕ
-modesOf f w = formatNumber f + 8 * workNumber w + 32 * digit (fills w) + 64 * digit (clearOpen w)
+modesOf f w = formatNumber f + 8 * workNumber w + 32 * digit (fills w) + 64 * digit (clearOpen w) + 128 * framesOver w
 
 -- `signals`: bit 1 VB, 2 and 3 the pen's sequence, 4, 5 and 6 the flags for pen end, VB and ready
 unfoldable pub signalsOf : Bool → LightPen → Flags → ℕ
@@ -104,6 +105,13 @@ named b = namedModes (b .modes) && namedSignals (b .signals)
 abbrev pub formatOf : Gdp → Format
 formatOf b = formatAt (formatIn (b .modes))
 
+-- the frames of a clear; bit 7 is not looked at where the format takes one
+abbrev pub overIn : ℕ → ℕ
+overIn m = min (m / 128) (frames (formatAt (formatIn m)) - 1)
+
+unfoldable pub framesIn : ℕ → Frames
+framesIn m = record { inside = bitAt 6 m; over = overIn m }
+
 -- the registers, and others in their place
 abbrev pub regsOf : Gdp → Regs
 regsOf b =
@@ -143,7 +151,7 @@ stateOf b =
     record {
       format = formatOf b;
       regs = regsOf b;
-      work = workAt (workIn (b .modes)) (b .code) (b .done) (bitAt 5 (b .modes)) (bitAt 6 (b .modes));
+      work = workAt (workIn (b .modes)) (b .code) (b .done) (bitAt 5 (b .modes)) (framesIn (b .modes));
       lightPen = lightPenAt (lightPenIn (b .signals));
       vb = bitAt 1 (b .signals);
       flags = record { lightPen = bitAt 4 (b .signals); vb = bitAt 5 (b .signals); ready = bitAt 6 (b .signals) };

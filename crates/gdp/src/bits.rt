@@ -1,21 +1,23 @@
 // The bits of `modes` and `signals`, named, read and set only here.
-// `modes`: bits 0 to 2 the format; 3 and 4 what runs (nothing, a command that steps, a clear); 5 the clear is 0C; 6 its frame is
-// open; 7 is kept for a clear's first frame that is over, and not in use yet.
+// `modes`: bits 0 to 2 the format; 3 and 4 what runs (nothing, a command that steps, a clear); 5 the clear is 0C; 6 a frame of it
+// is open; 7 its first frame is over, which is not in use where the format takes one.
 // `signals`: bit 1 VB and 4 to 6 the flags, where STATUS has them; 2 and 3 the light pen's sequence (none, waiting, in its frame);
 // 0 and 7 not in use.
 ghost use mathlib.Core.Path.{_≡_};
 ghost use mathlib.Core.Bool.{not};
-ghost use lib.Dec.{ltb};
-ghost use Prim.Native.Nat.{_*_, _%_, _<_, _≤_};
+ghost use lib.Dec.{ltb, leb};
+ghost use Prim.Native.Nat.{_+_, _*_, _/_, _%_, _<_, _≤_};
 ghost use Rattle.picture.specs.Bit.{digit, bitAt, withBit};
+ghost use Rattle.parts.specs.Format.{frames};
 ghost use Rattle.rules.specs.Sequence.{noSequence, lightPenOpen};
-ghost use Rattle.gdp.specs.Flat.{formatNumber, formatAt, lightPenAt, formatIn, workIn, lightPenIn};
-ghost use Rattle.gdp.specs.Working.Bits.{clearOpenIn, strayLightPen, strayWork, putWork, putLightPen, raiseFlag, signalBits, inUse, modesFall, signalsFall};
+ghost use Rattle.gdp.specs.Flat.{formatNumber, formatAt, lightPenAt, formatIn, workIn, overIn, lightPenIn};
+ghost use Rattle.gdp.specs.Working.Bits.{clearOpenIn, strayLightPen, strayWork, putWork, putLightPen, raiseFlag, signalBits, inUse, modesFall, modesRise, signalsFall};
 use parts::format::Format;
+use parts::format::frames_of;
 use picture::dot::bit_at;
 use picture::dot::with_bit;
 
-// What runs, with bits 5 and 6.
+// What runs, with bits 5 to 7.
 pub(crate) const IDLE: u8 = 0;
 
 pub(crate) const STEPS: u8 = 1;
@@ -88,11 +90,18 @@ pub(crate) fn work_number(modes: u8) -> u8
     modes / 8 % 4
 }
 
-// A clear is inside its frame.
+// A clear is inside a frame.
 pub(crate) fn is_clear_open(modes: u8) -> bool
     ensures { λ r. ⌜ r ≡ clearOpenIn modes ⌝ }
 {
     bit_at(modes, 4) & bit_at(modes, 6)
+}
+
+// The clear's frame, open or to come, is the last that its format takes.
+pub(crate) fn is_last_frame(modes: u8) -> bool
+    ensures { λ r. ⌜ r ≡ leb (frames (formatAt (formatIn modes))) (modes / 128 + 1) ⌝ }
+{
+    frames_of(format_of(modes)) <= modes / 128 + 1
 }
 
 // The clear is 0C.
@@ -155,11 +164,14 @@ pub(crate) fn with_work(modes: u8, work: u8) -> u8
     modes % 8 + 8 * work
 }
 
-// A clear's byte with the bit that is not in use made 0.
+// A clear's byte with bit 7 made 0 where it is not in use.
 pub(crate) fn clear_modes(modes: u8) -> u8
-    ensures { λ r. ⌜ r ≡ modes % 128 ⌝ }
+    ensures { λ r. ⌜ r ≡ modes % 128 + 128 * overIn modes ⌝ }
 {
-    modes % 128
+    if frames_of(format_of(modes)) <= 1 {
+        return modes % 128;
+    }
+    modes
 }
 
 pub(crate) fn with_light_pen(signals: u8, pen: u8) -> u8
@@ -187,12 +199,22 @@ pub(crate) fn with_flag(signals: u8, flag: u8, mask: bool) -> u8
     }
 }
 
-// A fall of VB opens the frame of a clear that waits, and of a light pen sequence that waits.
+// A fall of VB opens a frame of a clear that waits for one, and of a light pen sequence that waits.
 pub(crate) fn modes_at_fall(modes: u8) -> u8
     ensures { λ r. ⌜ r ≡ modesFall modes ⌝ }
 {
     if modes / 8 % 4 == CLEAR {
-        return modes % 64 + 64;
+        return modes % 64 + 64 + modes / 128 * 128;
+    }
+    modes
+}
+
+// A rise of VB that does not end the clear ends its first frame, if that is open.
+pub(crate) fn modes_at_rise(modes: u8) -> u8
+    ensures { λ r. ⌜ r ≡ modesRise modes ⌝ }
+{
+    if is_clear_open(modes) {
+        return modes % 64 + 128;
     }
     modes
 }

@@ -1,8 +1,7 @@
 // The VB level: frames begin at a fall and end at a rise.
 ghost use mathlib.Core.Path.{_≡_};
 ghost use mathlib.Core.Bool.{true, false};
-ghost use Rattle.rules.specs.Sequence.{endsClear};
-ghost use Rattle.rules.specs.Blanking.{fallen, clearEnds, lightPenEnds, risen, pictureVb};
+ghost use Rattle.rules.specs.Blanking.{fallen, endsClear, clearEnds, lightPenEnds, risen, pictureVb};
 ghost use Rattle.gdp.specs.Flat.{flat, stateOf, named};
 ghost use Rattle.gdp.specs.Calls.{Blanks};
 ghost use Rattle.gdp.specs.Working.Makes.{Makes};
@@ -10,9 +9,11 @@ ghost use Rattle.picture.specs.Bit.{bitAt};
 use crate::bits::format_of;
 use crate::bits::is_clear_open;
 use crate::bits::is_fill;
+use crate::bits::is_last_frame;
 use crate::bits::is_light_pen_open;
 use crate::bits::is_vb_high;
 use crate::bits::modes_at_fall;
+use crate::bits::modes_at_rise;
 use crate::bits::signals_at_fall;
 use crate::bits::with_vb;
 use crate::state::Answer;
@@ -33,21 +34,23 @@ impl Gdp {
         self
     }
 
-    // A rise of VB ends a clear that is inside its frame.
+    // A rise of VB ends a clear that is inside its last frame.
     fn ends_clear(self) -> bool
-        ensures { λ r. ⌜ r ≡ endsClear (stateOf self .work) ⌝ }
+        ensures { λ r. ⌜ r ≡ endsClear (stateOf self) ⌝ }
     {
-        is_clear_open(self.modes)
+        is_clear_open(self.modes) & is_last_frame(self.modes)
     }
 
-    // A clear that ends: ready rises.
+    // A clear that ends: ready rises. One that does not may have its first frame end.
     fn clear_ended(self) -> Gdp
         ensures { λ r. ⌜ (named self ≡ true → r ≡ flat (clearEnds (stateOf self))) ⌝ }
     {
         if self.ends_clear() {
             return self.idle().ready_raised();
         }
-        self.tidy()
+        let mut next = self.tidy();
+        next.modes = modes_at_rise(next.modes);
+        next
     }
 
     fn light_pen_ended(self) -> Gdp

@@ -1,7 +1,7 @@
 // The state of the processor in sixteen bytes, as C and Rust hand it over, and what a call gives back.
 ghost use mathlib.Core.Path.{_≡_};
 ghost use mathlib.Core.Bool.{true, false};
-ghost use Rattle.rules.specs.Sequence.{Idle, Steps, Clear, Off, Waiting};
+ghost use Rattle.rules.specs.Sequence.{Idle, Steps, Clear, noFrames, Off, Waiting};
 ghost use Rattle.rules.specs.State.{fresh, withWork, withLightPen, readyRaises, vbRaises, lightPenRaises};
 ghost use Rattle.gdp.specs.Flat.{flat, stateOf, named};
 ghost use Rattle.gdp.specs.Working.Makes.{Makes};
@@ -143,9 +143,9 @@ impl Gdp {
         self
     }
 
-    // A clear waits for its frame.
+    // A clear waits for its first frame.
     pub(crate) fn clears(mut self, fill: bool) -> Gdp
-        ensures { λ r. ⌜ Makes (withWork (Clear fill false)) self r ⌝ }
+        ensures { λ r. ⌜ Makes (withWork (Clear fill noFrames)) self r ⌝ }
     {
         self.code = 0;
         self.done = 0;

@@ -6,7 +6,8 @@ use mathlib.Core.Bool.{Bool, false, _&&_, _||_, not, and-false, true≢false}
 use Prim.Native.Nat.{ℕ}
 use lib.Dec.{eqb}
 use Rattle.basis.proofs.Cases.{cond-case}
-use Rattle.rules.specs.Sequence.{Work, Idle, Steps, Clear, lightPenOpen, workFalls, endsClear}
+use Rattle.rules.specs.Sequence.{Work, Idle, Steps, Clear, lightPenOpen, workFalls, workRises, inLast}
+use Rattle.parts.specs.Format.{frames}
 use Rattle.rules.specs.State.{State, withWork, lightPenRaises, vbRaises}
 use Rattle.rules.specs.Registers.{lightPenRead, afterRead}
 use Rattle.rules.specs.Blanking.{fallen, clearEnds, lightPenEnds, risen, afterVb, pictureVb, afterEdge}
@@ -55,10 +56,15 @@ falls-alike Idle n = refl
 falls-alike (Steps c p) n = refl
 falls-alike (Clear f o) n = absurd (true≢false n)
 
-ends-none : (w : Work) → clears w ≡ false → endsClear w ≡ false
-ends-none Idle n = refl
-ends-none (Steps c p) n = refl
-ends-none (Clear f o) n = absurd (true≢false n)
+rises-alike : (w : Work) → clears w ≡ false → workRises w ≡ w
+rises-alike Idle n = refl
+rises-alike (Steps c p) n = refl
+rises-alike (Clear f o) n = absurd (true≢false n)
+
+ends-none : (k : ℕ) (w : Work) → clears w ≡ false → inLast k w ≡ false
+ends-none k Idle n = refl
+ends-none k (Steps c p) n = refl
+ends-none k (Clear f o) n = absurd (true≢false n)
 
 module _ (s : State) (n : clears (s .work) ≡ false) where
   fallen-aside : Aside s (fallen s)
@@ -67,7 +73,7 @@ module _ (s : State) (n : clears (s .work) ≡ false) where
 
   ends-aside : Aside s (lightPenEnds (clearEnds s))
   unfolding lightPenEnds clearEnds lightPenRaises
-  ends-aside = rw (ends-none (s .work) n) (cond-case (Aside s) (lightPenOpen (s .lightPen)) (λ _. stays refl refl) (λ _. stays refl refl))
+  ends-aside = rw (ends-none (frames (s .format)) (s .work) n, rises-alike (s .work) n) (cond-case (Aside s) (lightPenOpen (s .lightPen)) (λ _. stays refl refl) (λ _. stays refl refl))
 
   risen-aside : Aside s (risen s)
   unfolding risen vbRaises
@@ -88,5 +94,5 @@ module _ (s : State) (n : clears (s .work) ≡ false) where
   pub vb-memory : (level : Bool) (m : Memory) → (blanked s level m) .memory ≡ m
   unfolding blanked outcome pictureVb
   vb-memory level m =
-      rw (ends-none (s .work) n, and-false (not (s .vb) && level))
+      rw (ends-none (frames (s .format)) (s .work) n, and-false (not (s .vb) && level))
       (cond-case (λ (x : Memory). x ≡ m) (eqb (vbNumber s (m .picture)) 0) (λ _. refl) (λ _. refl))

@@ -12,13 +12,13 @@ use Rattle.basis.proofs.Cases.{cond-case, and-parts}
 use Rattle.picture.specs.Bit.{bitAt}
 use Rattle.picture.proofs.Laws.{bit-other}
 use Rattle.parts.specs.Command.{kind, prompting}
-use Rattle.rules.specs.Sequence.{Work, Idle, Steps, Clear, lightPenOpen, endsClear}
+use Rattle.rules.specs.Sequence.{Work, Idle, Steps, Clear, lightPenOpen}
 use Rattle.rules.specs.State.{Regs, State, withVb, lightPenRaises, vbRaises, readyRaises}
 use Rattle.rules.specs.Registers.{stored, lightPenRead, afterRead}
 use Rattle.rules.specs.Figure.{cycles}
 use Rattle.rules.specs.Cycles.{rested, afterOf, after}
 use Rattle.rules.specs.Commands.{commanded, clearing, prompt, begun, afterWrite}
-use Rattle.rules.specs.Blanking.{fallen, clearEnds, lightPenEnds, risen, afterVb, afterEdge}
+use Rattle.rules.specs.Blanking.{fallen, endsClear, clearEnds, lightPenEnds, risen, afterVb, afterEdge}
 use Rattle.rules.specs.Refusals.{writeNumber}
 use Rattle.rules.specs.Calls.{answer, outcome, written, readOut, granted, blanked, struck}
 use Rattle.rules.specs.Card.{Card, Event, W, R, T, VB, LP, outcomeOf, next, played}
@@ -114,7 +114,7 @@ after-along s n (Clear f o) = along refl (λ x. x) (λ p. p)
 -- a VB rise leaves no open frame of the pen
 clear-ends : (s : State) → Along s (clearEnds s)
 unfolding clearEnds readyRaises
-clear-ends s = cond-case (Along s) (endsClear (s .work)) (λ _. along refl (λ x. x) (λ p. p)) (λ _. along refl (λ x. x) (λ p. p))
+clear-ends s = cond-case (Along s) (endsClear s) (λ _. along refl (λ x. x) (λ p. p)) (λ _. along refl (λ x. x) (λ p. p))
 
 pen-ends : (s t : State) → Along s t → Along s (withVb true (lightPenEnds t))
 unfolding lightPenEnds lightPenRaises

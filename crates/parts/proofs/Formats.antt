@@ -2,12 +2,12 @@
 -- Assumes nothing.
 use mathlib.Core.Path.{_≡_, refl}
 use mathlib.Core.Bool.{Bool}
-use Prim.Native.Nat.{_^_}
+use Prim.Native.Nat.{_^_, _<_, _≤_}
 use native.Mathlib.Omega.{arith}
 use Rattle.picture.specs.Screen.{Screen}
 use Rattle.parts.specs.declared.format.Format.{Format}
 use Rattle.parts.specs.declared.format.Format.the-variants.{Ef9366, FmatHigh, FmatLow}
-use Rattle.parts.specs.Format.{width, height, window, bytes, widthBits, heightBits}
+use Rattle.parts.specs.Format.{width, height, window, bytes, frames, widthBits, heightBits}
 
 pub width-power : (f : Format) → width f ≡ 2 ^ widthBits f
 unfolding width widthBits
@@ -32,3 +32,16 @@ unfolding window bytes width height widthBits heightBits
 screen Ef9366 cyclic = record { area = refl; wide = (9, refl); high = (8, refl); small = omega arith }
 screen FmatHigh cyclic = record { area = refl; wide = (9, refl); high = (9, refl); small = omega arith }
 screen FmatLow cyclic = record { area = refl; wide = (8, refl); high = (8, refl); small = omega arith }
+
+-- a clear takes a frame, or two
+pub frames-some : (f : Format) → 0 < frames f
+unfolding frames
+frames-some Ef9366 = omega arith
+frames-some FmatHigh = omega arith
+frames-some FmatLow = omega arith
+
+pub frames-most : (f : Format) → frames f ≤ 2
+unfolding frames
+frames-most Ef9366 = omega arith
+frames-most FmatHigh = omega arith
+frames-most FmatLow = omega arith

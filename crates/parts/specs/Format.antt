@@ -24,6 +24,12 @@ window f cyclic = record { width = width f; height = height f; cyclic = cyclic }
 unfoldable pub bytes : Format → ℕ
 bytes f = width f * height f / 8
 
+-- the frames that 04, 06, 07 and 0C take: two where FMAT is high
+unfoldable pub frames : Format → ℕ
+frames Ef9366 = 1
+frames FmatHigh = 2
+frames FmatLow = 1
+
 -- how many bits of X and of Y lie in the window
 unfoldable pub widthBits : Format → ℕ
 widthBits Ef9366 = 9

@@ -1,6 +1,6 @@
 // The part and its FMAT input, by which the window has its width and height.
 ghost use mathlib.Core.Path.{_≡_};
-ghost use Rattle.parts.specs.Format.{width, height, window, bytes};
+ghost use Rattle.parts.specs.Format.{width, height, window, bytes, frames};
 use picture::screen::Window;
 
 pub enum Format {
@@ -48,5 +48,16 @@ pub fn bytes_of(f: Format) -> usize
         Format::Ef9366 => 16384,
         Format::FmatHigh => 32768,
         Format::FmatLow => 8192,
+    }
+}
+
+// The frames of a clear.
+pub fn frames_of(f: Format) -> u8
+    ensures { λ r. ⌜ r ≡ frames f ⌝ }
+{
+    match f {
+        Format::Ef9366 => 1,
+        Format::FmatHigh => 2,
+        Format::FmatLow => 1,
     }
 }

@@ -24,13 +24,13 @@ use Rattle.parts.specs.Command.{kind, lettering, prompting}
 use Rattle.parts.proofs.Laws.{lowest-zero}
 use Rattle.drawing.specs.Figure.{Figure, cyclesOf}
 use Rattle.drawing.specs.Run.{placeOf, restOf}
-use Rattle.rules.specs.Sequence.{Work, Idle, Steps, Clear, ready, lightPenOpen, workFalls, endsClear}
+use Rattle.rules.specs.Sequence.{Work, Idle, Steps, Clear, ready, lightPenOpen, workFalls, workRises}
 use Rattle.rules.specs.State.{Regs, State, withPlace, withRegs, fresh, lightPenRaises, vbRaises, readyRaises}
 use Rattle.rules.specs.Registers.{lightPenRead, afterRead}
 use Rattle.rules.specs.Figure.{tilted, figureBy, figure, cycles, Tables}
 use Rattle.rules.specs.Cycles.{start, rested, afterOf, after}
 use Rattle.rules.specs.Commands.{commanded, clearing, prompt, begun, afterWrite}
-use Rattle.rules.specs.Blanking.{fallen, clearEnds, lightPenEnds, risen, afterVb, afterEdge}
+use Rattle.rules.specs.Blanking.{fallen, endsClear, clearEnds, lightPenEnds, risen, afterVb, afterEdge}
 use Rattle.rules.specs.Refusals.{badRegs, badWork, bad, busy, tiltedCharacter, noRegister, readOnly, writeNumber}
 use Rattle.rules.specs.Calls.{Memory, answer, outcome, written, readOut, granted, blanked, struck}
 use Rattle.rules.specs.Working.Good.{GoodRegs, GoodSteps, GoodWork, Good}
@@ -132,17 +132,17 @@ unfolding fallen
 fallen-keeps s g = record { regs = g .regs; work = falls (s .regs) (s .vb) (s .work) (g .work); lightPen = refl }
 
 -- VB rises: no frame is open after it, and the registers stay
-not-open : (r : Regs) (vb : Bool) (w : Work) → endsClear w ≡ false → GoodWork r vb w → GoodWork r true w
-not-open r vb Idle e h = tt
-not-open r vb (Steps c p) e h = h
-not-open r vb (Clear f o) e h = e
+closes : (r : Regs) (vb : Bool) (w : Work) → GoodWork r vb w → GoodWork r true (workRises w)
+closes r vb Idle h = tt
+closes r vb (Steps c p) h = h
+closes r vb (Clear f o) h = refl
 
 clear-keeps : (s : State) → Good s → GoodRegs ((clearEnds s) .regs) × GoodWork ((clearEnds s) .regs) true ((clearEnds s) .work)
 unfolding clearEnds readyRaises
 clear-keeps s g =
-    cond-case (λ (t : State). GoodRegs (t .regs) × GoodWork (t .regs) true (t .work)) (endsClear (s .work))
+    cond-case (λ (t : State). GoodRegs (t .regs) × GoodWork (t .regs) true (t .work)) (endsClear s)
     (λ _. (g .regs, tt))
-    (λ e. (g .regs, not-open (s .regs) (s .vb) (s .work) e (g .work)))
+    (λ _. (g .regs, closes (s .regs) (s .vb) (s .work) (g .work)))
 
 pen-keeps : (s : State) → GoodRegs (s .regs) × GoodWork (s .regs) true (s .work)
     → GoodRegs ((lightPenEnds s) .regs) × GoodWork ((lightPenEnds s) .regs) true ((lightPenEnds s) .work) × (lightPenOpen ((lightPenEnds s) .lightPen) ≡ false)

@@ -7,3 +7,8 @@ mod Good
 mod Split
 mod Grants
 mod Memory
+mod Frames
+mod Alike
+mod Resting
+mod Clears
+mod ReadyFlag

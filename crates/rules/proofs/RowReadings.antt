@@ -10,6 +10,7 @@ use Rattle.rules.specs.Tables.DrawRows.{strokeRows, lineTypeRows, letter
 use Rattle.rules.specs.Tables.RefusalRows.{limits, progress, memories, answerRows, outputRows, events}
 use Rattle.rules.specs.Tables.FormatRows.{formatWrites, formatReads, formatFrames, flawRows}
 use Rattle.rules.specs.Tables.FreeRows.{freeWrites, freeReads, freeFrames, freeGrants, freeRefusals}
+use Rattle.rules.specs.Tables.TwoFrames.{twoFrames}
 use Rattle.rules.specs.Tables.Computed.{computed}
 
 -- every address, written and read
@@ -166,3 +167,8 @@ free-grants-hold = refl
 pub free-refusals-hold : every freeRefusals ≡ true
 unfolding computed
 free-refusals-hold = refl
+
+-- a clear's frames, two with FMAT high
+pub two-frames-hold : every twoFrames ≡ true
+unfolding computed
+two-frames-hold = refl

@@ -15,7 +15,7 @@ use Rattle.motion.specs.Position.{ahead, behind, spot, moved, movedBack}
 use Rattle.drawing.specs.declared.tip.Tip.{Tip}
 use Rattle.drawing.specs.Figure.{Figure, cyclesOf, way}
 use Rattle.drawing.specs.Run.{startOf, placeOf, restOf, dotOf, dotsFrom}
-use Rattle.rules.specs.Sequence.{Work, Idle, Steps, Clear}
+use Rattle.rules.specs.Sequence.{Frames, Work, Idle, Steps, Clear}
 use Rattle.rules.specs.State.{Regs, State, withPlace, withRegs, withWork, readyRaises}
 use Rattle.rules.specs.Figure.{Tables, figure, cycles, glyph}
 use Rattle.rules.specs.Cycles.{penDown, lights, cyclic, tip, here, start, leftOf, left, used, dotsOf, dots, rested, afterOf, after}
@@ -139,7 +139,7 @@ pub idle-still : (s : State) → s .work ≡ Idle → Still s
 unfolding afterOf dotsOf leftOf
 idle-still s e = still-by s Idle e (λ n. refl) (λ t n. refl) refl
 
-pub clear-still : (s : State) (g o : Bool) → s .work ≡ Clear g o → Still s
+pub clear-still : (s : State) (g : Bool) (o : Frames) → s .work ≡ Clear g o → Still s
 unfolding afterOf dotsOf leftOf
 clear-still s g o e = still-by s (Clear g o) e (λ n. refl) (λ t n. refl) refl
 

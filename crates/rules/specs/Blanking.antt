@@ -4,7 +4,8 @@ use Prim.Native.Nat.{ℕ, _+_, _*_}
 use mathlib.Core.Bool.{Bool, true, false, cond, _&&_, not}
 use mathlib.Core.List.{List}
 use Rattle.picture.specs.Dot.{whole}
-use Rattle.rules.specs.Sequence.{Idle, Off, lightPenOpen, workFalls, lightPenFalls, endsClear, clearLights}
+use Rattle.parts.specs.Format.{frames}
+use Rattle.rules.specs.Sequence.{Idle, Off, lightPenOpen, workFalls, lightPenFalls, workRises, inLast, clearLights}
 use Rattle.rules.specs.State.{State, withLpck, withRegs, withWork, withLightPen, withVb, lightPenRaises, vbRaises, readyRaises}
 use Rattle.rules.specs.Cycles.{lights}
 
@@ -12,9 +13,14 @@ use Rattle.rules.specs.Cycles.{lights}
 unfoldable pub fallen : State → State
 fallen s = withVb false (withLightPen (lightPenFalls (s .lightPen)) (withWork (workFalls (s .work)) s))
 
--- VB rises: it ends a clear, and ready rises; it ends an open frame of the pen, and with it the sequence
+-- a VB rise ends a clear that is inside the last of the frames that its format takes
+abbrev pub endsClear : State → Bool
+endsClear s = inLast (frames (s .format)) (s .work)
+
+-- VB rises: it ends a clear, and ready rises, or an earlier frame of one; it ends an open frame of the pen, and with it the
+-- sequence
 unfoldable pub clearEnds : State → State
-clearEnds s = cond (endsClear (s .work)) (readyRaises (withWork Idle s)) s
+clearEnds s = cond (endsClear s) (readyRaises (withWork Idle s)) (withWork (workRises (s .work)) s)
 
 unfoldable pub lightPenEnds : State → State
 lightPenEnds s = cond (lightPenOpen (s .lightPen)) (lightPenRaises (withLightPen Off s)) s
@@ -29,7 +35,7 @@ afterVb s level = cond (s .vb) (cond level s (fallen s)) (cond level (risen s) s
 -- the picture changes whole at the VB rise that ends a clear
 unfoldable pub pictureVb : State → Bool → List ℕ → List ℕ
 pictureVb s level picture =
-    cond (not (s .vb) && level && endsClear (s .work)) (whole (clearLights (s .work) (lights (s .regs))) picture) picture
+    cond (not (s .vb) && level && endsClear s) (whole (clearLights (s .work) (lights (s .regs))) picture) picture
 
 -- in the open frame an LPCK edge loads XLP with 4h + 1 and YLP with v, and ends the sequence; at other times it does nothing
 unfoldable pub afterEdge : State → ℕ → ℕ → State

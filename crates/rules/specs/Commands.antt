@@ -6,7 +6,7 @@ use lib.Dec.{eqb}
 use Rattle.picture.specs.Bit.{withBit}
 use Rattle.motion.specs.Position.{spot}
 use Rattle.parts.specs.Command.{kind, prompting}
-use Rattle.rules.specs.Sequence.{Steps, Clear, Waiting}
+use Rattle.rules.specs.Sequence.{Steps, Clear, noFrames, Waiting}
 use Rattle.rules.specs.State.{Regs, State, regs, withCtrl1, withX, withY, withPlace, withRegs, withWork, withLightPen, readyRaises}
 use Rattle.rules.specs.Registers.{stored}
 
@@ -24,15 +24,15 @@ commanded r c =
     (cond (eqb c 0x0E) (withY 0 r)
     r)))))))
 
--- 04, 06, 07 and 0C: ready falls until the frame is over
+-- 04, 06, 07 and 0C: ready falls until the last frame is over
 unfoldable pub clearing : ℕ → Bool
 clearing c = eqb c 0x04 || eqb c 0x06 || eqb c 0x07 || eqb c 0x0C
 
--- a command without write cycles: a clear waits for its frame; in the others ready falls and rises within the call,
+-- a command without write cycles: a clear waits for its first frame; in the others ready falls and rises within the call,
 -- and 08 and 09 begin the pen's sequence, afresh where one is under way
 unfoldable pub prompt : State → ℕ → State
 prompt s c =
-    cond (clearing c) (withWork (Clear (eqb c 0x0C) false) s)
+    cond (clearing c) (withWork (Clear (eqb c 0x0C) noFrames) s)
     (cond (eqb c 0x08 || eqb c 0x09) (withLightPen Waiting (readyRaises s))
     (readyRaises s))
 

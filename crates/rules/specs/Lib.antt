@@ -10,5 +10,6 @@ pub mod Blanking
 pub mod Refusals
 pub mod Calls
 pub mod Card
+pub mod Frames
 pub mod Tables
 pub mod Working

@@ -22,7 +22,7 @@ badRegs r = ltb 4095 (r .x) || ltb 4095 (r .y) || ltb 127 (r .ctrl1) || ltb 15 (
 unfoldable pub badWork : Regs → Bool → Work → Bool
 badWork r vb Idle = false
 badWork r vb (Steps c p) = leb (cycles r c) p || (lettering (kind c) && tilted r)
-badWork r vb (Clear f o) = vb && o
+badWork r vb (Clear f o) = vb && o .inside
 
 -- or VB high inside an open frame of the pen
 unfoldable pub bad : State → Bool

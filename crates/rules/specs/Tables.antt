@@ -11,4 +11,5 @@ pub mod DrawRows
 pub mod RefusalRows
 pub mod FormatRows
 pub mod FreeRows
+pub mod TwoFrames
 pub mod Computed

@@ -1,5 +1,6 @@
 //! The model's state as a flat one and back.
 
+use crate::draw::count;
 use crate::flat::{self, Flat};
 use second::{ClearKind, Flags, Format, Pen, State, Work};
 
@@ -23,7 +24,8 @@ pub fn flattened(state: &State) -> Flat {
     }
 }
 
-/// None when a number names no format, no kind of work or no pen sequence. What is not in use is not looked at.
+/// None when a number names no format, no kind of work or no pen sequence. What is not in use is not looked at, but for
+/// the mark of a first frame: of a clear that has only one, the model itself must know that it means nothing.
 pub fn state_of(flat: &Flat) -> Option<State> {
     Some(State {
         format: format_of(flat.modes & flat::FORMAT)?,
@@ -47,9 +49,19 @@ pub fn state_of(flat: &Flat) -> Option<State> {
     })
 }
 
+/// The same bytes with 0 in every place that is not in use; None where they stand for no state.
+pub fn cleaned(flat: &Flat) -> Option<Flat> {
+    let state = state_of(flat)?;
+    let mut clean = flattened(&state);
+    if count::frames(state.format) == 1 {
+        clean.modes &= !flat::FIRST_FRAME_OVER;
+    }
+    Some(clean)
+}
+
 /// Something stands in a place that is not in use.
 pub fn has_left_overs(flat: &Flat) -> bool {
-    state_of(flat).is_some_and(|state| flattened(&state) != *flat)
+    cleaned(flat).is_some_and(|clean| clean != *flat)
 }
 
 pub fn format_of(number: u8) -> Option<Format> {
@@ -74,10 +86,10 @@ fn work_fields(work: &Work) -> (u8, u16, u8) {
     match *work {
         Work::Idle => (0, 0, flat::IDLE),
         Work::Steps { code, done } => (code, done, flat::STEPS),
-        Work::Clear { kind, open } => {
-            let fill = if kind == ClearKind::Fill { flat::CLEAR_IS_0C } else { 0 };
-            let open = if open { flat::CLEAR_IS_OPEN } else { 0 };
-            (0, 0, flat::CLEAR | fill | open)
+        Work::Clear { kind, open, frames_done } => {
+            let kind = bit(kind == ClearKind::Fill, flat::CLEAR_IS_0C);
+            let frame = bit(open, flat::CLEAR_IS_OPEN) | bit(frames_done > 0, flat::FIRST_FRAME_OVER);
+            (0, 0, flat::CLEAR | kind | frame)
         }
     }
 }
@@ -89,6 +101,7 @@ fn work_of(flat: &Flat) -> Option<Work> {
         flat::CLEAR => Some(Work::Clear {
             kind: if flat.modes & flat::CLEAR_IS_0C != 0 { ClearKind::Fill } else { ClearKind::Screen },
             open: flat.modes & flat::CLEAR_IS_OPEN != 0,
+            frames_done: u8::from(flat.modes & flat::FIRST_FRAME_OVER != 0),
         }),
         _ => None,
     }
@@ -112,9 +125,16 @@ fn pen_of(bits: u8) -> Option<Pen> {
 }
 
 fn signals(state: &State) -> u8 {
-    let bit = |high: bool, bit: u8| if high { bit } else { 0 };
     bit(state.vb, flat::VB)
         | bit(state.flags.pen_end, flat::PEN_FLAG)
         | bit(state.flags.vb_rise, flat::VB_FLAG)
         | bit(state.flags.ready, flat::READY_FLAG)
+}
+
+fn bit(high: bool, bit: u8) -> u8 {
+    if high {
+        bit
+    } else {
+        0
+    }
 }

@@ -1,5 +1,5 @@
 //! The finer counts of a run: single codes and addresses, formats, lengths lent, sizes of grants, the moments of VB
-//! calls and LPCK edges, what calls met left-overs, and PBM.
+//! calls and LPCK edges, what calls met left-overs, the frames of clears, and PBM.
 
 use crate::call::{Call, KINDS, KINDS_OF_CARD};
 use crate::convert::{format_number, has_left_overs, state_of};
@@ -8,14 +8,24 @@ use crate::draw::count;
 use crate::draw::left_over::{self, Doing};
 use crate::draw::single::Known;
 use crate::flat::Flat;
+use crate::frame_coverage::FrameCoverage;
 use crate::pbm_coverage::PbmCoverage;
 use second::{Pen, State, Work};
 
 const LENGTHS: [&str; 4] = ["the right length", "no length", "a shorter one", "a longer one"];
 pub const FORMATS: [&str; 3] = ["EF9366", "FMAT high", "FMAT low"];
-const WORKS: [&str; 4] = ["idle", "stepping", "a clear waiting", "a clear in its frame"];
+const WORKS: [&str; 8] = [
+    "idle",
+    "stepping",
+    "a clear waiting for its one frame",
+    "a clear in its one frame",
+    "a clear waiting for the first of two frames",
+    "a clear in the first of two frames",
+    "a clear waiting for the second of two frames",
+    "a clear in the second of two frames",
+];
 const PENS: [&str; 3] = ["no pen sequence", "the pen waiting", "the pen in its frame"];
-const LEVELS: [&str; 2] = ["low", "high"];
+pub const LEVELS: [&str; 2] = ["low", "high"];
 
 /// No grant finds more cycles left than 12,288, and a part is less.
 const PARTS: usize = 15;
@@ -39,11 +49,12 @@ pub struct Coverage {
     left_over_levels: [[u64; 2]; left_over::KINDS.len()],
     /// Beside left-overs of any kind, by number.
     left_over_numbers: [u64; 256],
+    pub frames: FrameCoverage,
     pbm: PbmCoverage,
 }
 
 /// Of what runs, the pen's sequence and VB.
-const MOMENTS: usize = 4 * 3 * 2;
+const MOMENTS: usize = WORKS.len() * 3 * 2;
 
 impl Default for Coverage {
     fn default() -> Coverage {
@@ -61,13 +72,15 @@ impl Default for Coverage {
             left_over_calls: [[0; KINDS_OF_CARD]; left_over::KINDS.len()],
             left_over_levels: [[0; 2]; left_over::KINDS.len()],
             left_over_numbers: [0; 256],
+            frames: FrameCoverage::default(),
             pbm: PbmCoverage::default(),
         }
     }
 }
 
 impl Coverage {
-    pub fn count(&mut self, flat: &Flat, call: &Call, number: u8, known: Known) {
+    /// `picture` is what the call was lent, as it was before.
+    pub fn count(&mut self, flat: &Flat, call: &Call, number: u8, known: Known, picture: &[u8]) {
         self.pbm.count(call, number, known);
         if has_left_overs(flat) {
             self.left_over_numbers[usize::from(number)] += 1;
@@ -88,6 +101,7 @@ impl Coverage {
             self.left_over_calls[kind][call.kind()] += 1;
             self.left_over_levels[kind][usize::from(state.vb)] += 1;
         }
+        self.frames.count(flat, &state, call, number, picture);
         match *call {
             Call::Write { address, value } => self.count_write(address, value, number),
             Call::Read { address: address @ 0..=15 } => self.read[usize::from(address)] += 1,
@@ -148,6 +162,7 @@ impl Coverage {
             }
         }
         self.left_over_rows(&mut add);
+        rows.extend(self.frames.rows());
         rows.extend(self.pbm.rows());
         rows
     }
@@ -184,8 +199,10 @@ fn moment(state: &State) -> usize {
     let work = match state.work {
         Work::Idle => 0,
         Work::Steps { .. } => 1,
-        Work::Clear { open: false, .. } => 2,
-        Work::Clear { open: true, .. } => 3,
+        Work::Clear { open, frames_done, .. } => {
+            let frame = if count::frames(state.format) == 1 { 0 } else { 1 + usize::from(frames_done) };
+            2 + 2 * frame + usize::from(open)
+        }
     };
     let pen = match state.pen {
         Pen::Off => 0,
@@ -199,7 +216,9 @@ fn moment(state: &State) -> usize {
 fn possible_moments() -> impl Iterator<Item = (usize, String)> {
     (0..MOMENTS).filter_map(|moment| {
         let (work, pen, vb) = (moment / 6, moment / 2 % 3, moment % 2);
-        let possible = vb == 0 || (work != 3 && pen != 2);
+        // Of the clears among WORKS every second one is in a frame.
+        let open = (work > 1 && work % 2 == 1) || pen == 2;
+        let possible = vb == 0 || !open;
         possible.then(|| (moment, format!("{}, {}, VB {}", WORKS[work], PENS[pen], LEVELS[vb])))
     })
 }

@@ -84,6 +84,7 @@ impl<'a, L: Card, M: Card> Differ<'a, L, M> {
 
     fn begin_run(&mut self) -> Result<(), Box<Difference>> {
         self.left_in_run = RUN_LENGTH;
+        self.tally.begin_run();
         self.run.renew(&mut self.random);
         let format = self.random.below(3) as u8;
         let call = Call::Fresh { format };
@@ -106,6 +107,9 @@ impl<'a, L: Card, M: Card> Differ<'a, L, M> {
         let outcome = self.run.play(self.library, self.model, self.present, call);
         self.settle(Place::Run, self.present, call, outcome, Known::Good)?;
         self.go_on_from(outcome);
+        if let Some(after) = state_of(&self.present) {
+            self.tally.follow_run(&state, &call, &after);
+        }
         Ok(())
     }
 
@@ -156,7 +160,11 @@ impl<'a, L: Card, M: Card> Differ<'a, L, M> {
         known: Known,
     ) -> Result<(), Box<Difference>> {
         let number = outcome.model.number();
-        self.tally.count(&state, &call, number, known);
+        let lent = match place {
+            Place::Run => self.run.before(),
+            Place::Single => self.single.before(),
+        };
+        self.tally.count(&state, &call, number, known, &lent.picture);
         let promise = match known {
             Known::Good | Known::LeftOver(_) => Some(Promise::Good),
             Known::Refused(_) => Some(Promise::Bad),
@@ -165,13 +173,9 @@ impl<'a, L: Card, M: Card> Differ<'a, L, M> {
         if outcome.agrees() && promise.is_none_or(|promise| promise.is_kept(number)) {
             return Ok(());
         }
-        let lent = match place {
-            Place::Run => self.run.before().clone(),
-            Place::Single => self.single.before().clone(),
-        };
         // Where the cards differ, that is what is told.
         let promise = promise.filter(|_| outcome.agrees());
-        let case = Case { state, call, lent, promise };
+        let case = Case { state, call, lent: lent.clone(), promise };
         Err(Box::new(Difference::met(self.seed, self.tally.calls, case, outcome, self.library, self.model)))
     }
 }

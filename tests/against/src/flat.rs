@@ -118,7 +118,8 @@ pub const STEPS: u8 = 1 << 3;
 pub const CLEAR: u8 = 2 << 3;
 pub const CLEAR_IS_0C: u8 = 1 << 5;
 pub const CLEAR_IS_OPEN: u8 = 1 << 6;
-pub const MODES_BIT_7: u8 = 1 << 7;
+/// In use only for a clear with FMAT high, which has two frames.
+pub const FIRST_FRAME_OVER: u8 = 1 << 7;
 
 // The fields of `signals`, likewise.
 pub const SIGNALS_BIT_0: u8 = 1 << 0;

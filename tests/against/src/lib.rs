@@ -15,6 +15,7 @@ pub mod draw;
 #[cfg(linked)]
 pub mod ffi;
 pub mod flat;
+pub mod frame_coverage;
 pub mod lent;
 pub mod library;
 pub mod log;

@@ -5,8 +5,8 @@ mod memories;
 
 use crate::call::Call;
 use crate::case::Case;
-use crate::convert::{flattened, state_of};
-use crate::flat::{Flat, CLEAR_IS_0C, CLEAR_IS_OPEN, FORMAT, PEN, WORK};
+use crate::convert::cleaned;
+use crate::flat::{Flat, CLEAR_IS_0C, CLEAR_IS_OPEN, FIRST_FRAME_OVER, FORMAT, PEN, WORK};
 use crate::scene::Memories;
 use memories::{darken, plainer_files, resized, right_lengths, right_picture, shorten_file, MEMORIES};
 use std::cell::Cell;
@@ -69,11 +69,11 @@ fn weight(case: &Case) -> u64 {
 
 /// Fields of the state that only change together; left-overs go first.
 const LEAPS: [fn(&mut Flat); 7] = [
-    |s| *s = state_of(s).map_or(*s, |state| flattened(&state)),
+    |s| *s = cleaned(s).unwrap_or(*s),
     |s| s.modes &= !FORMAT,
     |s| s.signals &= !PEN,
     |s| {
-        s.modes &= !(WORK | CLEAR_IS_0C | CLEAR_IS_OPEN);
+        s.modes &= !(WORK | CLEAR_IS_0C | CLEAR_IS_OPEN | FIRST_FRAME_OVER);
         (s.code, s.done) = (0, 0);
     },
     |s| (s.code, s.done) = (ONE_CYCLE, 0),

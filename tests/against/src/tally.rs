@@ -6,6 +6,7 @@ use crate::draw::codes::{class_of, CLASSES};
 use crate::draw::left_over;
 use crate::draw::single::{causes, Known};
 use crate::flat::Flat;
+use second::State;
 use std::fmt::{Display, Formatter, Result};
 
 /// A run this long must have met everything often enough.
@@ -43,9 +44,10 @@ impl Default for Tally {
 }
 
 impl Tally {
-    pub fn count(&mut self, state: &Flat, call: &Call, number: u8, known: Known) {
+    /// `picture` is what the call was lent, as it was before.
+    pub fn count(&mut self, state: &Flat, call: &Call, number: u8, known: Known, picture: &[u8]) {
         self.calls += 1;
-        self.finer.count(state, call, number, known);
+        self.finer.count(state, call, number, known, picture);
         self.kinds[call.kind()] += 1;
         self.numbers[usize::from(number)] += 1;
         if let (Call::Write { address: 0, value }, 0) = (call, number) {
@@ -61,6 +63,15 @@ impl Tally {
             Known::LeftOver(kind) => self.left_overs[kind][usize::from(number != 0)] += 1,
             Known::Good | Known::File(_) | Known::Nothing => {}
         }
+    }
+
+    pub fn begin_run(&mut self) {
+        self.finer.frames.begin_run();
+    }
+
+    /// A call of a run, counted as any other, from the state before it to the one after.
+    pub fn follow_run(&mut self, before: &State, call: &Call, after: &State) {
+        self.finer.frames.follow_run(before, call, after);
     }
 
     fn left_over_rows(&self) -> impl Iterator<Item = (String, u64)> + '_ {

@@ -1,9 +1,9 @@
 //! The flat form loses nothing; what is not in use changes no answer; a number that names nothing stands for no state.
 
 use against::call::Reply;
-use against::convert::{flattened, has_left_overs, state_of};
+use against::convert::{cleaned, flattened, has_left_overs, state_of};
 use against::draw::{impossible, left_over, no_state, single, states};
-use against::flat::{Flat, FlatAnswer};
+use against::flat::{Flat, FlatAnswer, FIRST_FRAME_OVER};
 use against::model::Model;
 use against::random::Random;
 use against::scene::Scene;
@@ -11,11 +11,16 @@ use second::{fresh, ClearKind, Flags, Format, Pen, State, Work};
 
 /// As `include/gdp.h` says, worked out by hand.
 #[test]
-fn two_states_in_bytes() {
+fn three_states_in_bytes() {
     let flags = Flags { pen_end: true, vb_rise: false, ready: true };
-    let clear = Work::Clear { kind: ClearKind::Fill, open: true };
+    let clear = Work::Clear { kind: ClearKind::Fill, open: true, frames_done: 0 };
     let state = State { work: clear, pen: Pen::Waiting, flags, x: 0x123, ..fresh(Format::Ef9365Low) };
     let bytes = [0x23, 0x01, 0, 0, 0, 0, 0, 0, 0x11, 0, 0, 0, 0, 0, 0b0111_0010, 0b0101_0100];
+    assert_eq!(flattened(&state).bytes(), bytes);
+
+    let clear = Work::Clear { kind: ClearKind::Screen, open: false, frames_done: 1 };
+    let state = State { work: clear, vb: true, ..fresh(Format::Ef9365High) };
+    let bytes = [0, 0, 0, 0, 0, 0, 0, 0, 0x11, 0, 0, 0, 0, 0, 0b1001_0001, 0b0000_0010];
     assert_eq!(flattened(&state).bytes(), bytes);
 
     let flags = Flags { pen_end: false, vb_rise: true, ready: false };
@@ -57,11 +62,32 @@ fn what_is_left_over_stands_for_nothing() {
     for _ in 0..2_000 {
         for (kind, (name, _, _)) in left_over::KINDS.iter().enumerate() {
             let (state, flat) = left_over::planted(&mut random, kind);
-            assert_eq!(state_of(&flat), Some(state), "{name}");
+            assert_eq!(cleaned(&flat), Some(flattened(&state)), "{name}");
             assert!(has_left_overs(&flat) && !has_left_overs(&flattened(&state)), "{name}");
-            let bad = flattened(&impossible::CAUSES[kind].1(&mut random));
-            assert_eq!(state_of(&left_over::scattered(&mut random, bad)), state_of(&bad), "{name}");
         }
+        for (name, planted) in impossible::CAUSES {
+            let bad = flattened(&planted(&mut random));
+            assert!(!has_left_overs(&bad), "{name}");
+            assert_eq!(cleaned(&left_over::scattered(&mut random, bad)), Some(bad), "{name}");
+        }
+    }
+}
+
+/// The mark of a first frame is handed to the model wherever a clear runs; elsewhere it has no place for it.
+#[test]
+fn what_the_model_is_told_of_a_first_frame() {
+    let mut random = Random::new(20);
+    for _ in 0..20_000 {
+        let good = states::good(&mut random);
+        let clean = flattened(&good);
+        let marked = Flat { modes: clean.modes | FIRST_FRAME_OVER, ..clean };
+        let told = match good.work {
+            Work::Clear { kind, open, .. } => Work::Clear { kind, open, frames_done: 1 },
+            other => other,
+        };
+        assert_eq!(state_of(&marked), Some(State { work: told, ..good }));
+        let in_use = matches!(good.work, Work::Clear { .. }) && good.format == Format::Ef9365High;
+        assert_eq!(has_left_overs(&marked), !in_use, "{good:?}");
     }
 }
 

@@ -6,8 +6,8 @@ use against::case::Case;
 use against::differ::compare;
 use against::difference::Difference;
 use against::flat::{
-    Flat, FlatAddress, FlatAnswer, FlatPbm, CLEAR, CLEAR_IS_OPEN, FORMAT, READY_FLAG, SIGNALS_BIT_0, STEPS,
-    VB, WORK,
+    Flat, FlatAddress, FlatAnswer, FlatPbm, CLEAR, CLEAR_IS_OPEN, FIRST_FRAME_OVER, FORMAT, READY_FLAG,
+    SIGNALS_BIT_0, STEPS, VB, WORK,
 };
 use against::lent::Part;
 use against::model::Model;
@@ -43,6 +43,20 @@ enum Fault {
     Fresh,
     /// An impossible state taken as good.
     Lenient,
+    /// The first of two frames ends a clear.
+    OneFrame,
+    /// A second frame where a clear has one.
+    TwoFrames,
+    /// Half of the lines darkened when the first of two frames ends.
+    HalfCleared,
+    /// A left-over first frame that a clear begins with.
+    HeadStart,
+    /// A first frame handed back where a clear has one.
+    KeptMark,
+    /// A first frame refused where a clear has one.
+    StrictMark,
+    /// VB high in the second of two frames taken as good.
+    LenientFrame,
     /// The bottom line written first.
     Upturned,
     /// A byte behind the written ones changed in the buffer.
@@ -75,6 +89,9 @@ impl Card for Wrong {
         if self.0 == Fault::Number && answer.number == 6 && tilted_character {
             answer.number = 7;
         }
+        if self.0 == Fault::HeadStart && two_frames(&answer.state) && answer.number == 0 {
+            answer.state.modes |= state.modes & FIRST_FRAME_OVER;
+        }
         answer
     }
 
@@ -87,6 +104,9 @@ impl Card for Wrong {
                 return FlatAnswer { number: 1, value: 0, state };
             }
             Fault::Tidying if answer.number == 4 && state.modes & WORK != STEPS => answer.state.done = 0,
+            Fault::StrictMark if one_frame(&state) && state.modes & FIRST_FRAME_OVER != 0 => {
+                return FlatAnswer { number: 1, value: 0, state };
+            }
             _ => {}
         }
         answer
@@ -107,6 +127,25 @@ impl Card for Wrong {
     }
 
     fn set_vb(&self, state: Flat, level: u8, mut picture: Part) -> FlatAnswer {
+        let ends = level != 0 && state.modes & (CLEAR_IS_OPEN | FIRST_FRAME_OVER) == CLEAR_IS_OPEN;
+        match self.0 {
+            Fault::OneFrame if ends && two_frames(&state) => {
+                let later = Flat { modes: state.modes | FIRST_FRAME_OVER, ..state };
+                return Model.set_vb(later, level, picture);
+            }
+            Fault::TwoFrames if ends && one_frame(&state) => {
+                let waiting = Flat { modes: state.modes & !CLEAR_IS_OPEN, ..state };
+                let answer = Model.set_vb(waiting, level, picture);
+                return with_modes(answer, FIRST_FRAME_OVER);
+            }
+            Fault::HalfCleared if ends && two_frames(&state) => {
+                let answer = Model.set_vb(state, level, again(&mut picture));
+                let half = if answer.number == 0 { picture.length / 2 } else { 0 };
+                picture.bytes()[..half].fill(0);
+                return answer;
+            }
+            _ => {}
+        }
         let last = picture.bytes().last().copied();
         let lent = again(&mut picture);
         let answer = Model.set_vb(state, level, lent);
@@ -128,6 +167,9 @@ impl Card for Wrong {
                 FlatAnswer { state: Flat { code: state.code, ..answer.state }, ..answer }
             }
             Fault::Lenient => Model.lpck(Flat { x: state.x & 0x0FFF, ..state }, h, v),
+            Fault::KeptMark if one_frame(&state) => {
+                with_modes(Model.lpck(state, h, v), state.modes & FIRST_FRAME_OVER)
+            }
             _ => Model.lpck(state, h, v),
         }
     }
@@ -138,6 +180,9 @@ impl Card for Wrong {
             Fault::Lines if lines.number == 0 && state.modes & FORMAT == 2 => lines.msl ^= 0x0F,
             Fault::Strict if state.signals & SIGNALS_BIT_0 != 0 => {
                 return FlatAddress { number: 1, low: 0, high: 0, msl: 0 };
+            }
+            Fault::LenientFrame if two_frames(&state) && state.modes & FIRST_FRAME_OVER != 0 => {
+                return Model.address(Flat { modes: state.modes & !CLEAR_IS_OPEN, ..state });
             }
             _ => {}
         }
@@ -171,6 +216,25 @@ impl Card for Wrong {
         }
         answer
     }
+}
+
+fn clears_on(state: &Flat, formats: [u8; 2]) -> bool {
+    state.modes & WORK == CLEAR && formats.contains(&(state.modes & FORMAT))
+}
+
+/// A clear runs that has one frame.
+fn one_frame(state: &Flat) -> bool {
+    clears_on(state, [0, 2])
+}
+
+fn two_frames(state: &Flat) -> bool {
+    clears_on(state, [1, 1])
+}
+
+/// The same answer with bits of `modes` where it is accepted.
+fn with_modes(answer: FlatAnswer, bits: u8) -> FlatAnswer {
+    let bits = if answer.number == 0 { bits } else { 0 };
+    FlatAnswer { state: Flat { modes: answer.state.modes | bits, ..answer.state }, ..answer }
 }
 
 /// Lines of the screen in the other order, in the file of a format 512 wide.
@@ -316,11 +380,50 @@ fn an_impossible_state_taken_as_good() {
 }
 
 #[test]
+fn a_clear_that_ends_too_early() {
+    told_as(&noticed(Fault::OneFrame), "vb 00000000000000001100000000005100 01 32768");
+}
+
+#[test]
+fn a_clear_that_ends_too_late() {
+    told_as(&noticed(Fault::TwoFrames), "vb 00000000000000001100000000005000 01 16384");
+}
+
+#[test]
+fn a_picture_changed_between_the_frames() {
+    let told = noticed(Fault::HalfCleared);
+    let fault = told.outcome.picture.expect("the picture differs");
+    assert!((0..16_384).contains(&fault.place), "{told}");
+    assert_eq!(told.case.lent.picture.iter().filter(|byte| **byte != 0).count(), 1, "{told}");
+    assert_eq!((told.case.state.modes, told.case.state.signals), (0x51, 0), "{told}");
+}
+
+#[test]
+fn a_clear_that_begins_with_a_first_frame_left_over() {
+    told_as(&noticed(Fault::HeadStart), "write 00000000000000001100000000008100 00 04");
+}
+
+#[test]
+fn a_first_frame_that_stays_where_there_is_one() {
+    told_as(&noticed(Fault::KeptMark), "lpck 00000000000000001100000000009000 0 0");
+}
+
+#[test]
+fn a_first_frame_refused_where_there_is_one() {
+    told_as(&noticed(Fault::StrictMark), "read 00000000000000001100000000009000 00");
+}
+
+#[test]
+fn a_high_level_in_the_second_frame_taken_as_good() {
+    told_as(&noticed(Fault::LenientFrame), "address 0000000000000000110000000000D102");
+}
+
+#[test]
 fn a_picture_written_from_the_bottom() {
     // One byte of the picture is lit, and the buffer just as long as it must be.
     let told = noticed(Fault::Upturned);
     let (picture, buffer) = (&told.case.lent.picture, &told.case.lent.file);
-    assert_eq!((picture.len(), buffer.len()), (16_384, 133_131), "{told}");
+    assert!([(16_384, 133_131), (32_768, 266_251)].contains(&(picture.len(), buffer.len())), "{told}");
     assert_eq!(picture.iter().filter(|byte| **byte != 0).count(), 1, "{told}");
     assert!(told.outcome.file.is_some() && told.to_string().contains("file: first at byte "), "{told}");
 }
@@ -379,6 +482,8 @@ fn a_fault_of_both_cards() {
     noticed_of_both(Fault::Mended, "Both agree, but a cause of refusal 1 was planted");
     noticed_of_both(Fault::Strict, "Both agree, but the state was drawn good");
     noticed_of_both(Fault::Looking, "Both agree, but the state was drawn good");
+    noticed_of_both(Fault::LenientFrame, "Both agree, but a cause of refusal 1 was planted");
+    noticed_of_both(Fault::StrictMark, "Both agree, but the state was drawn good");
 }
 
 #[test]
@@ -401,11 +506,27 @@ fn a_whole_run_that_met_nothing_says_so() {
         "PBM read, a picture of no length",
         "PBM read, a bad last dot",
     ];
-    for row in calls.iter().chain(&refusals).chain(&left_overs).chain(&finer).chain(&pbm) {
+    let frames = [
+        "refusal 1 for VB high in the second frame of two of a clear",
+        "a clear on FMAT low with a first frame over: refused",
+        "VB set low when a clear waiting for the second of two frames, the pen waiting, VB high",
+        "VB set high when a clear in the first of two frames, no pen sequence, VB low",
+        "a clear given on the FMAT high, a first frame said to be over",
+        "grant while a clear waits for the second of two frames",
+        "a fall that begins the one frame on the EF9366, a first one said to be over: 0C with the eraser",
+        "a rise that ends the second of two frames: 0C with the pen",
+        "07 given on the FMAT high with VB low, and carried to its end",
+    ];
+    for row in calls.iter().chain(&refusals).chain(&left_overs).chain(&finer).chain(&pbm).chain(&frames) {
         assert!(tally.gaps().iter().any(|gap| gap.contains(row)), "{row}");
     }
-    let never = "register write accepted beside a left-over, steps with 0C set";
-    assert!(tally.gaps().iter().all(|gap| !gap.contains(never)));
+    for never in [
+        "register write accepted beside a left-over, steps with 0C set",
+        "a clear on FMAT high with a first frame over",
+        "VB set low when a clear in the second of two frames, no pen sequence, VB high",
+    ] {
+        assert!(tally.gaps().iter().all(|gap| !gap.contains(never)), "{never}");
+    }
 }
 
 #[test]

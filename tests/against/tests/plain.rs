@@ -2,8 +2,8 @@
 
 use against::bench::plain::{LightPen, Plain, Running};
 use against::call::Call;
-use against::draw::run;
 use against::draw::states::FORMATS;
+use against::draw::{count, run};
 use against::random::Random;
 use against::scene::{LONGEST_PICTURE, LONGEST_TABLE};
 use second::{ClearKind, Pen, State, Work};
@@ -74,32 +74,36 @@ fn light_pen(plain: &Plain) -> Pen {
     }
 }
 
-/// The kind of what runs, its progress, and for a clear whether it is 0C and open.
-type Kind = (&'static str, u16, bool, bool);
+/// The kind of what runs, its progress, and for a clear whether it is 0C and open, and the frames that are left.
+type Kind = (&'static str, u16, Option<(bool, bool, u8)>);
 
 fn running(plain: &Plain) -> Kind {
     match &plain.running {
-        Running::Idle => ("idle", 0, false, false),
-        Running::OneCycle => ("one cycle", 0, false, false),
-        Running::Vector(vector) => ("vector", vector.done(), false, false),
-        Running::Character(character) => ("character", character.done(), false, false),
-        Running::Clear { fill, open } => ("clear", 0, *fill, *open),
+        Running::Idle => ("idle", 0, None),
+        Running::OneCycle => ("one cycle", 0, None),
+        Running::Vector(vector) => ("vector", vector.done(), None),
+        Running::Character(character) => ("character", character.done(), None),
+        Running::Clear { fill, open, frames_left } => ("clear", 0, Some((*fill, *open, *frames_left))),
     }
 }
 
 fn running_by(model: &State) -> Kind {
     match model.work {
-        Work::Idle => ("idle", 0, false, false),
-        Work::Steps { code: 0x0F, done } => ("one cycle", done, false, false),
-        Work::Steps { code: 0x10..=0x1F | 0x80.., done } => ("vector", done, false, false),
-        Work::Steps { done, .. } => ("character", done, false, false),
-        Work::Clear { kind, open } => ("clear", 0, kind == ClearKind::Fill, open),
+        Work::Idle => ("idle", 0, None),
+        Work::Steps { code: 0x0F, done } => ("one cycle", done, None),
+        Work::Steps { code: 0x10..=0x1F | 0x80.., done } => ("vector", done, None),
+        Work::Steps { done, .. } => ("character", done, None),
+        Work::Clear { kind, open, frames_done } => {
+            let frames_left = count::frames(model.format) - frames_done;
+            ("clear", 0, Some((kind == ClearKind::Fill, open, frames_left)))
+        }
     }
 }
 
 #[test]
 fn the_plain_card_answers_and_draws_as_the_model_does() {
     let mut random = Random::new(78);
+    let mut clears_ended = [0; 3];
     for round in 0..300 {
         let format = FORMATS[round % 3];
         let mut both = Both {
@@ -111,7 +115,11 @@ fn the_plain_card_answers_and_draws_as_the_model_does() {
         random.fill(&mut both.table);
         for _ in 0..300 {
             let call = run::next(&mut random, &both.model);
+            let cleared = matches!(both.model.work, Work::Clear { .. });
             both.play(&call);
+            clears_ended[round % 3] += usize::from(cleared && both.model.work == Work::Idle);
         }
     }
+    // On FMAT high each of them went through both its frames.
+    assert!(clears_ended.iter().all(|clears| *clears > 200), "{clears_ended:?}");
 }

@@ -13,7 +13,7 @@ pub fn set_vb(state: &State, level: bool, picture: &mut [u8]) -> Answer {
     if number != ACCEPTED {
         return Answer::refused(number, state);
     }
-    let mut next = *state;
+    let mut next = state.with_frames_that_count();
     if level != state.vb {
         next.vb = level;
         if level {
@@ -26,20 +26,29 @@ pub fn set_vb(state: &State, level: bool, picture: &mut [u8]) -> Answer {
 }
 
 fn frame_begins(state: &mut State) {
-    if let Work::Clear { kind, .. } = state.work {
-        state.work = Work::Clear { kind, open: true };
+    if let Work::Clear { kind, frames_done, .. } = state.work {
+        state.work = Work::Clear { kind, open: true, frames_done };
     }
     light_pen::frame_begins(state);
 }
 
 fn frame_ends(state: &mut State, picture: &mut [u8]) {
     vb_rises(state);
-    if let Work::Clear { kind, open: true } = state.work {
+    if let Work::Clear { kind, open: true, frames_done } = state.work {
+        clear_frame_ends(state, kind, frames_done + 1, picture);
+    }
+    light_pen::frame_ends(state);
+}
+
+/// The picture is left alone until the last frame is over, and then changes whole (reading b.2).
+fn clear_frame_ends(state: &mut State, kind: ClearKind, frames_done: u8, picture: &mut [u8]) {
+    if frames_done < state.format.frames() {
+        state.work = Work::Clear { kind, open: false, frames_done };
+    } else {
         fill(picture, lit_by(kind, state));
         state.work = Work::Idle;
         ready_rises(state);
     }
-    light_pen::frame_ends(state);
 }
 
 /// Only 0C looks at CTRL1 bit 1, and none at bit 0.

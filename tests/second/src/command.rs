@@ -56,7 +56,7 @@ fn work_begun(code: u8) -> Work {
     }
 }
 
-/// A frame already under way does not count: only a later VB fall opens one.
+/// A frame already under way does not count (reading b.1): only a later VB fall opens one.
 fn waiting(kind: ClearKind) -> Work {
-    Work::Clear { kind, open: false }
+    Work::Clear { kind, open: false, frames_done: 0 }
 }

@@ -14,7 +14,7 @@ pub fn cycles(state: &State, n: u16, picture: &mut [u8], table: &[u8]) -> Answer
     if number != ACCEPTED {
         return Answer::refused(number, state);
     }
-    let mut next = *state;
+    let mut next = state.with_frames_that_count();
     let mut used = 0;
     while used < n {
         let Some(after) = after_one_cycle(&next, picture, table) else {

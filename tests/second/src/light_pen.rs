@@ -11,7 +11,7 @@ pub fn lpck(state: &State, h: u16, v: u16) -> Answer {
     if number != ACCEPTED {
         return Answer::refused(number, state);
     }
-    let mut next = *state;
+    let mut next = state.with_frames_that_count();
     if state.pen == Pen::Open {
         // Both fit: h is at most 63 and v at most 255.
         next.xlp = (4 * h + 1) as u8;

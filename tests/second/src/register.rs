@@ -73,7 +73,7 @@ fn shown(state: &State, address: u8) -> u8 {
 
 /// STATUS forgets its flags once shown; XLP forgets its lowest bit once either pen register is shown.
 fn after_reading(state: &State, address: u8) -> State {
-    let mut next = *state;
+    let mut next = state.with_frames_that_count();
     match address {
         CMD => next.flags = NO_FLAGS,
         XLP | YLP => next.xlp &= !1,

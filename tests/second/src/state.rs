@@ -31,10 +31,11 @@ pub enum Work {
         code: u8,
         done: u16,
     },
-    /// A command that waits for blanking; `open` once its frame has begun.
+    /// A command that waits for blanking; `open` inside each of its frames, `frames_done` of them over.
     Clear {
         kind: ClearKind,
         open: bool,
+        frames_done: u8,
     },
 }
 
@@ -119,5 +120,15 @@ impl State {
     /// A pen sequence is no running command (reading 19).
     pub fn busy(&self) -> bool {
         self.work != Work::Idle
+    }
+
+    /// The last frame of a running clear is not over, so no more than those before it count.
+    /// A larger number is no bad state: what is too much of it is not looked at (reading b.3).
+    pub fn with_frames_that_count(&self) -> State {
+        let mut next = *self;
+        if let Work::Clear { frames_done, .. } = &mut next.work {
+            *frames_done = (*frames_done).min(self.format.frames() - 1);
+        }
+        next
     }
 }

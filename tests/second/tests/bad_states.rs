@@ -14,8 +14,12 @@ fn running(code: u8, done: u16) -> State {
     State { work: Work::Steps { code, done }, ..idle() }
 }
 
-fn clearing(kind: second::ClearKind, open: bool, vb: bool) -> State {
-    State { work: Work::Clear { kind, open }, vb, ..idle() }
+/// A clear as it may be met: of every kind, on every format, whatever frames are said to be over.
+fn clears(open: bool, vb: bool) -> impl Iterator<Item = State> {
+    let kinds = CLEARS.into_iter().map(|(_, kind)| kind);
+    let works =
+        kinds.flat_map(move |kind| [0, 1, 2, 255].map(|frames_done| Work::Clear { kind, open, frames_done }));
+    works.flat_map(move |work| common::FORMATS.map(|format| State { format, work, vb, ..idle() }))
 }
 
 // readings 1, 2 and 22: every call gives 1, and nothing moves
@@ -130,8 +134,8 @@ fn tilt_high_in_good_states() {
     for code in [0x0F].into_iter().chain(0x10..=0x1F).chain(0x80..=0xFF) {
         assert_good("vector or 0F", &State { ctrl2: 4, ..running(code, 0) });
     }
-    for (_, kind) in CLEARS {
-        assert_good("clear", &State { ctrl2: 15, ..clearing(kind, false, false) });
+    for clear in clears(false, false) {
+        assert_good("clear", &State { ctrl2: 15, ..clear });
     }
 }
 
@@ -174,14 +178,22 @@ fn progress_not_below_the_count() {
     }
 }
 
+// reading b.5: in the first frame of a clear and in its second
 #[test]
-fn vb_high_in_an_open_frame() {
-    for (_, kind) in CLEARS {
-        assert_bad("clear", &clearing(kind, true, true));
-        assert_good("clear, VB low", &clearing(kind, true, false));
-        assert_good("clear waiting, VB high", &clearing(kind, false, true));
-        assert_good("clear waiting, VB low", &clearing(kind, false, false));
-    }
+fn vb_high_in_an_open_frame_of_a_clear() {
+    clears(true, true).for_each(|state| assert_bad("clear", &state));
+}
+
+// reading b.3: no number of frames is a cause of 1
+#[test]
+fn clears_in_good_states() {
+    clears(true, false).for_each(|state| assert_good("clear, VB low", &state));
+    clears(false, true).for_each(|state| assert_good("clear waiting, VB high", &state));
+    clears(false, false).for_each(|state| assert_good("clear waiting, VB low", &state));
+}
+
+#[test]
+fn vb_high_in_an_open_frame_of_the_pen() {
     for work in [Work::Idle, Work::Steps { code: 0xE9, done: 2 }] {
         let pen = |pen, vb| State { work, pen, vb, ..idle() };
         assert_bad("pen", &pen(Pen::Open, true));
@@ -194,14 +206,13 @@ fn vb_high_in_an_open_frame() {
 // reading 5: each open frame counts by itself
 #[test]
 fn one_frame_open_and_the_other_not() {
-    for (_, kind) in CLEARS {
-        for pen in [Pen::Off, Pen::Waiting] {
-            assert_bad("clear open", &State { pen, ..clearing(kind, true, true) });
-            assert_good("clear open", &State { pen, ..clearing(kind, true, false) });
-        }
-        assert_bad("pen open", &State { pen: Pen::Open, ..clearing(kind, false, true) });
-        assert_good("pen open", &State { pen: Pen::Open, ..clearing(kind, false, false) });
+    for pen in [Pen::Off, Pen::Waiting] {
+        clears(true, true).for_each(|state| assert_bad("clear open", &State { pen, ..state }));
+        clears(true, false).for_each(|state| assert_good("clear open", &State { pen, ..state }));
     }
+    let pen = Pen::Open;
+    clears(false, true).for_each(|state| assert_bad("pen open", &State { pen, ..state }));
+    clears(false, false).for_each(|state| assert_good("pen open", &State { pen, ..state }));
 }
 
 // reading 11: the other fields have no impossible value

@@ -73,19 +73,22 @@ fn commands_that_take_cycles_begin_without_moving() {
     }
 }
 
-// readings 46 and 47: registers change on acceptance
+// readings 46, 47 and b.3: registers change on acceptance, and no frame is over
 #[test]
 fn clears_begin_with_their_registers_changed() {
-    for (code, kind) in common::CLEARS {
-        let work = Work::Clear { kind, open: false };
-        let begun = State { work, ..full() };
-        let expected = match code {
-            0x06 => State { x: 0, y: 0, ..begun },
-            0x07 => State { ctrl1: 0, ctrl2: 0, csize: 0x11, deltax: 0, deltay: 0, x: 0, y: 0, ..begun },
-            _ => begun,
-        };
-        assert_eq!(after(full(), code), expected, "{code:02X}");
-        assert!(after(State { vb: true, pen: Pen::Waiting, ..full() }, code).vb);
+    for format in common::FORMATS {
+        let full = State { format, ..full() };
+        for (code, kind) in common::CLEARS {
+            let work = Work::Clear { kind, open: false, frames_done: 0 };
+            let begun = State { work, ..full };
+            let expected = match code {
+                0x06 => State { x: 0, y: 0, ..begun },
+                0x07 => State { ctrl1: 0, ctrl2: 0, csize: 0x11, deltax: 0, deltay: 0, x: 0, y: 0, ..begun },
+                _ => begun,
+            };
+            assert_eq!(after(full, code), expected, "{code:02X}");
+            assert!(after(State { vb: true, pen: Pen::Waiting, ..full }, code).vb);
+        }
     }
 }
 

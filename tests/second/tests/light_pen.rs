@@ -20,12 +20,14 @@ fn in_open_frame(format: Format) -> Card {
 // reading 29: bit 0 is low from the acceptance
 #[test]
 fn status_bit_0_through_a_sequence() {
-    let mut card = sequence(Format::Ef9366);
-    assert_eq!(card.status(), 0x04);
-    assert_eq!(card.vb(true).status(), 0x06);
-    assert_eq!(card.vb(false).status(), 0x04);
-    assert_eq!(card.edge(10, 20).status(), 0x95);
-    assert_eq!(card.status(), 0x05);
+    for format in FORMATS {
+        let mut card = sequence(format);
+        assert_eq!(card.status(), 0x04);
+        assert_eq!(card.vb(true).status(), 0x06);
+        assert_eq!(card.vb(false).status(), 0x04);
+        assert_eq!(card.edge(10, 20).status(), 0x95);
+        assert_eq!(card.status(), 0x05);
+    }
 }
 
 // readings 11 and 42: the same 4h + 1 and v in every format
@@ -49,53 +51,61 @@ fn an_edge_changes_nothing_else() {
     assert_eq!(answer.state, State { xlp: 41, ylp: 20, pen: Pen::Off, flags, ..card.state });
 }
 
-// reading 53: edges outside the open frame do nothing, with VB low too
+// readings 53 and b.4: edges outside the open frame do nothing, with VB low too
 #[test]
 fn edges_at_other_times() {
-    let mut card = Card::new(Format::Ef9366);
-    let before = card.state;
-    assert_eq!(card.edge(10, 20).state, before);
+    for format in FORMATS {
+        let mut card = Card::new(format);
+        let before = card.state;
+        assert_eq!(card.edge(10, 20).state, before);
 
-    let mut card = sequence(Format::Ef9366);
-    let before = card.state;
-    assert_eq!(card.edge(10, 20).state, before);
-    let before = card.vb(true).state;
-    assert_eq!(card.edge(10, 20).state, before);
+        let mut card = sequence(format);
+        let before = card.state;
+        assert_eq!(card.edge(10, 20).state, before);
+        let before = card.vb(true).state;
+        assert_eq!(card.edge(10, 20).state, before);
 
-    let mut card = in_open_frame(Format::Ef9366);
-    let before = card.edge(10, 20).state;
-    assert_eq!(card.edge(30, 40).state, before);
-    let before = card.vb(true).state;
-    assert_eq!(card.edge(30, 40).state, before);
-    let before = card.vb(false).state;
-    assert_eq!(card.edge(30, 40).state, before);
+        let mut card = in_open_frame(format);
+        let before = card.edge(10, 20).state;
+        assert_eq!(card.edge(30, 40).state, before);
+        let before = card.vb(true).state;
+        assert_eq!(card.edge(30, 40).state, before);
+        let before = card.vb(false).state;
+        assert_eq!(card.edge(30, 40).state, before);
+    }
 }
 
 // reading 53: a VB rise before the frame opens ends nothing
 #[test]
 fn a_rise_before_the_frame() {
-    let mut card = sequence(Format::Ef9366);
-    card.vb(true);
-    assert_eq!(card.state.pen, Pen::Waiting);
-    assert_eq!(card.state.flags, NO_FLAGS);
+    for format in FORMATS {
+        let mut card = sequence(format);
+        card.vb(true);
+        assert_eq!(card.state.pen, Pen::Waiting);
+        assert_eq!(card.state.flags, NO_FLAGS);
+    }
 }
 
 #[test]
 fn a_sequence_begun_with_vb_high() {
-    let mut card = Card::new(Format::Ef9366);
-    card.vb(true).command(0x09);
-    assert_eq!(card.vb(false).state.pen, Pen::Open);
+    for format in FORMATS {
+        let mut card = Card::new(format);
+        card.vb(true).command(0x09);
+        assert_eq!(card.vb(false).state.pen, Pen::Open);
+    }
 }
 
-// readings 35 and 41: the rise loads nothing, keeps XLP's lowest bit, and is an end all the same
+// readings 35, 41 and b.4: the rise loads nothing, keeps XLP's lowest bit, and is an end all the same
 #[test]
 fn a_frame_without_an_edge() {
-    let mut card = in_open_frame(Format::Ef9366);
-    card.edge(10, 20);
-    card.status();
-    card.command(0x08).vb(true).vb(false);
-    assert_eq!(card.vb(true).status(), 0x97);
-    assert_eq!((card.state.xlp, card.state.ylp, card.state.pen), (41, 20, Pen::Off));
+    for format in FORMATS {
+        let mut card = in_open_frame(format);
+        card.edge(10, 20);
+        card.status();
+        card.command(0x08).vb(true).vb(false);
+        assert_eq!(card.vb(true).status(), 0x97);
+        assert_eq!((card.state.xlp, card.state.ylp, card.state.pen), (41, 20, Pen::Off));
+    }
 }
 
 #[test]

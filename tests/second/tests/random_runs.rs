@@ -41,10 +41,10 @@ fn one_cycle_at_a_time_equals_a_whole_grant() {
         let mut used = 0;
         loop {
             let answer = cycles(&present, 1, &mut singly, &table);
+            present = answer.state;
             if answer.value == 0 {
                 break;
             }
-            present = answer.state;
             used += 1;
         }
         let whole = cycles(&state, 65_535, &mut at_once, &table);

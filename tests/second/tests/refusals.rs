@@ -6,6 +6,10 @@ use common::numbers::{busy, cycles_number, idle, lpck_number, read_number, vb_nu
 use common::{picture, picture_bytes, CLEARS, FORMATS, NO_TIME};
 use second::{lpck, set_vb, write, Format, Pen, State, Work};
 
+fn clearing(open: bool, frames_done: u8) -> Work {
+    Work::Clear { kind: CLEARS[0].1, open, frames_done }
+}
+
 // 2: the picture
 
 // reading 13: also when nothing would be written
@@ -13,9 +17,7 @@ use second::{lpck, set_vb, write, Format, Pen, State, Work};
 fn picture_of_another_length_in_the_cycles_call() {
     for format in FORMATS {
         let right = picture_bytes(format);
-        for work in
-            [Work::Idle, Work::Steps { code: 0xE9, done: 1 }, Work::Clear { kind: CLEARS[0].1, open: true }]
-        {
+        for work in [Work::Idle, Work::Steps { code: 0xE9, done: 1 }, clearing(true, 0), clearing(true, 1)] {
             let state = State { format, work, ..idle() };
             for n in [0, 1, 100] {
                 assert_eq!(cycles_number(&state, n, right, &TABLE), 0);
@@ -37,8 +39,7 @@ fn picture_of_another_length_in_the_cycles_call() {
 fn picture_of_another_length_in_the_vb_call() {
     for format in FORMATS {
         let right = picture_bytes(format);
-        for work in
-            [Work::Idle, Work::Steps { code: 0xE9, done: 1 }, Work::Clear { kind: CLEARS[0].1, open: false }]
+        for work in [Work::Idle, Work::Steps { code: 0xE9, done: 1 }, clearing(false, 0), clearing(false, 1)]
         {
             for present in [false, true] {
                 let state = State { format, work, vb: present, ..idle() };
@@ -55,9 +56,14 @@ fn picture_of_another_length_in_the_vb_call() {
 
 #[test]
 fn picture_of_another_length_leaves_a_clear_waiting() {
-    let state = State { work: Work::Clear { kind: CLEARS[0].1, open: true }, ..idle() };
-    assert_eq!(vb_number(&state, true, 16_383), 2);
-    assert_eq!(vb_number(&state, true, 16_384), 0);
+    for format in FORMATS {
+        let right = picture_bytes(format);
+        for frames_done in [0, 1] {
+            let state = State { format, work: clearing(true, frames_done), ..idle() };
+            assert_eq!(vb_number(&state, true, right - 1), 2);
+            assert_eq!(vb_number(&state, true, right), 0);
+        }
+    }
 }
 
 // 3: the character table
@@ -65,9 +71,9 @@ fn picture_of_another_length_leaves_a_clear_waiting() {
 // readings 14 and 81: whatever runs, and for 0 cycles
 #[test]
 fn table_of_another_length() {
-    let clear = Work::Clear { kind: CLEARS[0].1, open: false };
+    let clears = [clearing(false, 0), clearing(false, 1)];
     let steps = [0x0A, 0x0B, 0x0F, 0x11, 0x41, 0xE9].map(|code| Work::Steps { code, done: 0 });
-    for work in steps.into_iter().chain([Work::Idle, clear]) {
+    for work in steps.into_iter().chain(clears).chain([Work::Idle]) {
         let state = State { work, ..idle() };
         for n in [0, 1, 100] {
             for length in [0, 5, 479, 481, 640] {
@@ -114,7 +120,7 @@ fn pen_registers_are_not_written() {
 // reading 18: every other address, and commands that take no time too
 #[test]
 fn writes_while_a_command_runs() {
-    let clears = CLEARS.map(|(_, kind)| Work::Clear { kind, open: false });
+    let clears = CLEARS.map(|(_, kind)| Work::Clear { kind, open: false, frames_done: 0 });
     let steps = [0x0A, 0x0B, 0x0F, 0x11, 0x41, 0xE9].map(|code| Work::Steps { code, done: 0 });
     for work in clears.into_iter().chain(steps) {
         let state = State { work, ..idle() };

@@ -2,16 +2,21 @@
 
 mod common;
 
-use common::{Card, CLEARS, FORMATS, NO_FLAGS, NO_TIME};
+use common::{Card, CLEARS, FORMATS, NO_FLAGS, NO_TIME, ONE_FRAME, TWO_FRAMES};
 use second::{fresh, read, ClearKind, Flags, Format, Pen, State, Work};
 
 fn status(state: State) -> u16 {
     read(&state, 0).value
 }
 
+fn clearing(kind: ClearKind, open: bool, frames_done: u8) -> Work {
+    Work::Clear { kind, open, frames_done }
+}
+
 #[test]
 fn each_bit_by_itself() {
     let idle = fresh(Format::Ef9366);
+    let fmat_high = fresh(TWO_FRAMES);
     let none = NO_FLAGS;
     let rows = [
         (idle, 0x05),
@@ -20,8 +25,10 @@ fn each_bit_by_itself() {
         (State { vb: true, ..idle }, 0x07),
         (State { work: Work::Steps { code: 0xE9, done: 0 }, ..idle }, 0x01),
         (State { work: Work::Steps { code: 0x41, done: 47 }, ..idle }, 0x01),
-        (State { work: Work::Clear { kind: ClearKind::Screen, open: false }, ..idle }, 0x01),
-        (State { work: Work::Clear { kind: ClearKind::Fill, open: true }, ..idle }, 0x01),
+        (State { work: clearing(ClearKind::Screen, false, 0), ..idle }, 0x01),
+        (State { work: clearing(ClearKind::Fill, true, 0), ..idle }, 0x01),
+        (State { work: clearing(ClearKind::Screen, false, 1), ..fmat_high }, 0x01),
+        (State { work: clearing(ClearKind::Fill, true, 1), ..fmat_high }, 0x01),
         (State { x: 512, ..idle }, 0x0D),
         (State { flags: Flags { pen_end: true, ..none }, ..idle }, 0x95),
         (State { flags: Flags { vb_rise: true, ..none }, ..idle }, 0xA5),
@@ -129,15 +136,17 @@ fn vb_flag_at_a_rise_alone() {
 // readings 37 and 43: the present level changes nothing
 #[test]
 fn vb_at_its_present_level() {
-    for code in [0x04, 0x08] {
-        for level in [false, true] {
-            let mut card = Card::new(Format::Ef9366);
-            card.write(1, 0x70).vb(level).command(code);
-            card.picture.fill(0x5A);
-            let before = card.clone();
-            card.vb(level).vb(level);
-            assert_eq!(card.state, before.state);
-            assert_eq!(card.picture, before.picture);
+    for format in FORMATS {
+        for code in [0x04, 0x08] {
+            for level in [false, true] {
+                let mut card = Card::new(format);
+                card.write(1, 0x70).vb(level).command(code);
+                card.picture.fill(0x5A);
+                let before = card.clone();
+                card.vb(level).vb(level);
+                assert_eq!(card.state, before.state);
+                assert_eq!(card.picture, before.picture);
+            }
         }
     }
 }
@@ -207,13 +216,15 @@ fn mask_made_low_after_the_rise() {
 // reading 36: one rise ends a clear and a pen frame and is itself a flag
 #[test]
 fn three_flags_at_one_rise() {
-    for (code, _) in CLEARS.into_iter().filter(|row| row.0 != 7) {
-        let mut card = Card::new(Format::Ef9366);
-        card.write(1, 0x70).command(0x09).command(code).vb(true);
-        assert_eq!(card.status(), 0xE2, "{code:02X}");
-        assert_eq!(card.vb(false).status(), 0x00);
-        assert_eq!(card.vb(true).status(), 0xF7);
-        assert_eq!(card.status(), 0x07);
+    for format in ONE_FRAME {
+        for (code, _) in CLEARS.into_iter().filter(|row| row.0 != 7) {
+            let mut card = Card::new(format);
+            card.write(1, 0x70).command(0x09).command(code).vb(true);
+            assert_eq!(card.status(), 0xE2, "{code:02X}");
+            assert_eq!(card.vb(false).status(), 0x00);
+            assert_eq!(card.vb(true).status(), 0xF7);
+            assert_eq!(card.status(), 0x07);
+        }
     }
 }
 

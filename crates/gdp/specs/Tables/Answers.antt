@@ -8,6 +8,7 @@ use Rattle.basis.specs.Reading.{Reading, each, joined, told}
 use Rattle.parts.specs.declared.format.Format.the-variants.{FmatLow}
 use Rattle.rules.specs.Sequence.{Clear, Waiting}
 use Rattle.rules.specs.Calls.{Answer as Verdict, Located}
+use Rattle.rules.specs.Tables.Rows.{framesNamed}
 use Rattle.gdp.specs.declared.state.Gdp.{Gdp}
 use Rattle.gdp.specs.Calls.{levelOf, flawed, refusal, answerOf, outputsOf, allOnes, freshAnswer}
 use Rattle.gdp.specs.Tables.Rows.{over, times, bytes, byteRow, answerRow, outputsRow}
@@ -61,7 +62,7 @@ flaws =
 
 -- a verdict of some number: value 513 and a state of its own, FMAT low, a clear 0C inside its frame, the pen's sequence waiting
 unfoldable pub verdict : ℕ → Verdict
-verdict k = record { number = k; value = 513; state = own FmatLow (Clear true true) Waiting false true false true }
+verdict k = record { number = k; value = 513; state = own FmatLow (Clear true (framesNamed 1)) Waiting false true false true }
 
 -- an accepted one of some value
 unfoldable pub valued : ℕ → Verdict

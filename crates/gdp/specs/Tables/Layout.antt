@@ -1,16 +1,17 @@
 -- The sixteen bytes of a state and the state of sixteen bytes, held against include/gdp.h.
 -- Assumes nothing.
-use Prim.Native.Nat.{ℕ, _+_, _^_}
+use Prim.Native.Nat.{ℕ, _+_, _*_, _^_}
 use mathlib.Core.Bool.{Bool, true, false}
 use mathlib.Core.List.{List, [], _∷_, _++_}
-use lib.ListN.{replicate}
+use lib.ListN.{getD, replicate}
 use Rattle.basis.specs.Reading.{Reading, each, joined, told}
 use Rattle.parts.specs.declared.format.Format.{Format}
 use Rattle.parts.specs.declared.format.Format.the-variants.{Ef9366, FmatHigh, FmatLow}
 use Rattle.rules.specs.Sequence.{Work, Idle, Steps, Clear, LightPen, Off, Waiting, Open}
 use Rattle.rules.specs.State.{State, regs, flags, state}
+use Rattle.rules.specs.Tables.Rows.{framesNamed, framesTold}
 use Rattle.gdp.specs.declared.state.Gdp.{Gdp}
-use Rattle.gdp.specs.Flat.{formatNumber, formatAt, lightPenNumber, lightPenAt, workNumber, codeOf, doneOf, fills, workAt, flat, named, formatOf, regsOf, putRegs, stateOf}
+use Rattle.gdp.specs.Flat.{formatNumber, formatAt, lightPenNumber, lightPenAt, workNumber, codeOf, doneOf, fills, workAt, modesOf, flat, named, formatOf, framesIn, regsOf, putRegs, stateOf}
 use Rattle.gdp.specs.Tables.Rows.{over, times, bytes, byteRow, regsRow, formatRow, workRow, penRow, stateRow}
 
 -- a state whose registers have each their own value, and such bytes
@@ -27,7 +28,8 @@ unfoldable pub formats : List Format
 formats = Ef9366 ∷ FmatHigh ∷ FmatLow ∷ []
 
 unfoldable pub works : List Work
-works = Idle ∷ Steps 0x41 300 ∷ Clear false false ∷ Clear true false ∷ Clear false true ∷ Clear true true ∷ []
+works =
+    Idle ∷ Steps 0x41 300 ∷ Clear false (framesNamed 0) ∷ Clear true (framesNamed 0) ∷ Clear false (framesNamed 1) ∷ Clear true (framesNamed 1) ∷ []
 
 unfoldable pub pens : List LightPen
 pens = Off ∷ Waiting ∷ Open ∷ []
@@ -41,7 +43,7 @@ allFlat =
     over levels (λ (fr : Bool). over levels (λ (fv : Bool). over levels (λ (fp : Bool).
     over pens (λ (p : LightPen). over levels (λ (v : Bool). byteRow (flat (own f w p v fp fv fr)))))))))
 
--- `modes` with code and done, format 0: bits 3 and 4 what runs, 5 the clear is 0C, 6 its frame is open
+-- `modes` with code and done, format 0: bits 3 and 4 what runs, 5 the clear is 0C, 6 a frame of it is open
 unfoldable pub modesRows : List (ℕ × (ℕ × ℕ))
 modesRows = (0, (0, 0)) ∷ (8, (0x41, 300)) ∷ (16, (0, 0)) ∷ (48, (0, 0)) ∷ (80, (0, 0)) ∷ (112, (0, 0)) ∷ []
 
@@ -76,15 +78,24 @@ unfoldable pub ownRegs : List ℕ
 ownRegs = 0x71 ∷ 0x0B ∷ 0x23 ∷ 0x45 ∷ 0x67 ∷ 0xABC ∷ 0x9DE ∷ 0xF1 ∷ 0x8F ∷ []
 
 -- all `modes` beside `signals` g: bits 0 to 2 the format, 3 to 7 read as 2; 3 and 4 what runs, 3 read as 2; without a command
--- that steps code and done are not read, without a clear 5 and 6 are not; bit 7 is not
+-- that steps code and done are not read, without a clear 5 to 7 are not; nor is 7 but for format 1, FMAT high
 unfoldable pub ofModes : ℕ → List ℕ
 ofModes g = joined (λ (m : ℕ). stateRow (stateOf (ownBytes m g))) 0 256
 
 unfoldable pub modesRead : List ℕ → List ℕ
 modesRead rest =
-    let eight : List ℕ → List ℕ = λ (w : List ℕ). over (0 ∷ 1 ∷ 2 ∷ 2 ∷ 2 ∷ 2 ∷ 2 ∷ 2 ∷ []) (λ (f : ℕ). ownRegs ++ (f ∷ (w ++ rest))) in
-    let block : ℕ → ℕ → List ℕ = λ (f o : ℕ). eight (0 ∷ 0 ∷ 0 ∷ []) ++ (eight (1 ∷ 0x41 ∷ 300 ∷ []) ++ times 2 (eight (2 ∷ f ∷ o ∷ []))) in
-    times 2 (block 0 0 ++ (block 1 0 ++ (block 0 1 ++ block 1 1)))
+    let eight : (ℕ → List ℕ) → List ℕ =
+    λ (w : ℕ → List ℕ). over (0 ∷ 1 ∷ 2 ∷ 2 ∷ 2 ∷ 2 ∷ 2 ∷ 2 ∷ []) (λ (f : ℕ). ownRegs ++ (f ∷ (w f ++ rest))) in
+    let block : ℕ → ℕ → ℕ → List ℕ =
+    λ (l o v : ℕ). eight (λ f. 0 ∷ 0 ∷ 0 ∷ []) ++ (eight (λ f. 1 ∷ 0x41 ∷ 300 ∷ [])
+    ++ times 2 (eight (λ f. 2 ∷ l ∷ (o + getD (0 ∷ 2 * v ∷ 0 ∷ []) f 9) ∷ []))) in
+    joined (λ (v : ℕ). block 0 0 v ++ (block 1 0 v ++ (block 0 1 v ++ block 1 1 v))) 0 2
+
+-- bit 7 where no frame, and where one, is open
+unfoldable pub framesRead : List ℕ
+framesRead =
+    times 8 (replicate 8 0) ++ (times 8 (replicate 8 1)
+    ++ (times 8 (0 ∷ 2 ∷ replicate 6 0) ++ times 8 (1 ∷ 3 ∷ replicate 6 1)))
 
 -- all `signals` beside `modes` m: bit 1 VB; 2 and 3 the pen sequence, 3 read as 2; 4, 5, 6 the flags; 0 and 7 are not read
 unfoldable pub ofSignals : ℕ → List ℕ
@@ -152,10 +163,16 @@ layout =
       0 ∷ 0 ∷ 0 ∷ 0 ∷ 1 ∷ 0x41 ∷ 300 ∷ 0 ∷ 2 ∷ 0 ∷ 0 ∷ 0 ∷ 2 ∷ 0 ∷ 0 ∷ 1 ∷ 2 ∷ 0 ∷ 0 ∷ 0 ∷ 2 ∷ 0 ∷ 0 ∷ 1 ∷ [],
     )
     ∷ (
-      joined (λ (n : ℕ). workRow (workAt n 0x41 300 true false) ++ workRow (workAt n 5 6 false true)) 0 256,
-      0 ∷ 0 ∷ 0 ∷ 0 ∷ 0 ∷ 0 ∷ 1 ∷ 0x41 ∷ 300 ∷ 1 ∷ 5 ∷ 6 ∷ times 254 (2 ∷ 1 ∷ 0 ∷ 2 ∷ 0 ∷ 1 ∷ []),
+      joined (λ (n : ℕ). workRow (workAt n 0x41 300 true (framesNamed 0)) ++ workRow (workAt n 5 6 false (framesNamed 3))) 0 256,
+      0 ∷ 0 ∷ 0 ∷ 0 ∷ 0 ∷ 0 ∷ 1 ∷ 0x41 ∷ 300 ∷ 1 ∷ 5 ∷ 6 ∷ times 254 (2 ∷ 1 ∷ 0 ∷ 2 ∷ 0 ∷ 3 ∷ []),
     )
     ∷ (each (λ (m : ℕ). formatRow (formatOf (ownBytes m 0))) 0 256, times 32 (0 ∷ 1 ∷ replicate 6 2))
+    -- the frames of a clear: with FMAT high its bit 7 once the first is over
+    ∷ (each (λ (m : ℕ). framesTold (framesIn m)) 0 256, framesRead)
+    ∷ (
+      each (λ (n : ℕ). modesOf FmatHigh (Clear false (framesNamed n))) 0 4 ++ each (λ (n : ℕ). modesOf FmatHigh (Clear true (framesNamed n))) 0 4,
+      0x11 ∷ 0x51 ∷ 0x91 ∷ 0xD1 ∷ 0x31 ∷ 0x71 ∷ 0xB1 ∷ 0xF1 ∷ [],
+    )
     -- the registers of bytes, and others in their place
     ∷ (regsRow (regsOf (bytes 1 2 3 4 5 6 7 8 9 10 11 12 13)), 4 ∷ 5 ∷ 6 ∷ 7 ∷ 8 ∷ 1 ∷ 2 ∷ 9 ∷ 10 ∷ [])
     ∷ (

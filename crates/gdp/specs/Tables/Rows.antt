@@ -8,6 +8,7 @@ use Rattle.parts.specs.declared.format.Format.{Format}
 use Rattle.parts.specs.declared.format.Format.the-variants.{Ef9366, FmatHigh, FmatLow}
 use Rattle.rules.specs.Sequence.{Work, Idle, Steps, Clear, LightPen, Off, Waiting, Open}
 use Rattle.rules.specs.State.{Regs, State}
+use Rattle.rules.specs.Tables.Rows.{framesTold}
 use Rattle.gdp.specs.declared.state.Gdp.{Gdp}
 use Rattle.gdp.specs.declared.state.Answer.{Answer}
 use Rattle.gdp.specs.declared.address.Outputs.{Outputs}
@@ -43,7 +44,8 @@ unfoldable pub byteRow : Gdp → List ℕ
 byteRow b =
     b .x ∷ b .y ∷ b .done ∷ b .ctrl1 ∷ b .ctrl2 ∷ b .csize ∷ b .deltax ∷ b .deltay ∷ b .xlp ∷ b .ylp ∷ b .code ∷ b .modes ∷ b .signals ∷ []
 
--- a state: its registers, then 0 to 2 for the format; 0 for idle, 1, code and progress, or 2, 0C and open; 0 to 2 for the pen's
+-- a state: its registers, then 0 to 2 for the format; 0 for idle, 1, code and progress, or 2, 0C and the frames (1 where one is
+-- open and 2 for each that is over); 0 to 2 for the pen's
 -- sequence; VB; the flags for pen end, VB and ready
 unfoldable pub regsRow : Regs → List ℕ
 regsRow r = r .ctrl1 ∷ r .ctrl2 ∷ r .csize ∷ r .deltax ∷ r .deltay ∷ r .x ∷ r .y ∷ r .xlp ∷ r .ylp ∷ []
@@ -56,7 +58,7 @@ formatRow FmatLow = 2
 unfoldable pub workRow : Work → List ℕ
 workRow Idle = 0 ∷ 0 ∷ 0 ∷ []
 workRow (Steps c p) = 1 ∷ c ∷ p ∷ []
-workRow (Clear f o) = 2 ∷ told f ∷ told o ∷ []
+workRow (Clear f o) = 2 ∷ told f ∷ framesTold o ∷ []
 
 unfoldable pub penRow : LightPen → ℕ
 penRow Off = 0

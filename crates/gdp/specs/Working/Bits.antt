@@ -7,7 +7,7 @@ use Rattle.picture.specs.Bit.{digit, bitAt, withBit}
 use Rattle.rules.specs.Sequence.{lightPenOpen}
 use Rattle.gdp.specs.Flat.{workIn, lightPenAt, lightPenIn, namedSignals}
 
--- a clear inside its frame
+-- a clear inside a frame
 abbrev pub clearOpenIn : ℕ → Bool
 clearOpenIn m = bitAt 4 m && bitAt 6 m
 
@@ -19,7 +19,7 @@ strayLightPen g = not (namedSignals g) || (bitAt 1 g && lightPenOpen (lightPenAt
 abbrev pub strayWork : Bool → ℕ → Bool
 strayWork vb m = not (ltb (workIn m) 3) || (vb && clearOpenIn m)
 
--- what runs, with bits 5 and 6
+-- what runs, with bits 5 to 7
 abbrev pub putWork : ℕ → ℕ → ℕ
 putWork n m = m % 8 + 8 * n
 
@@ -37,7 +37,11 @@ inUse g = g / 2 % 64 * 2
 
 -- a fall of VB
 abbrev pub modesFall : ℕ → ℕ
-modesFall m = cond (eqb (workIn m) 2) (m % 64 + 64) m
+modesFall m = cond (eqb (workIn m) 2) (m % 64 + 64 + m / 128 * 128) m
+
+-- a rise that ends a clear's frame and not the clear
+abbrev pub modesRise : ℕ → ℕ
+modesRise m = cond (clearOpenIn m) (m % 64 + 128) m
 
 abbrev pub signalsFall : ℕ → ℕ
 signalsFall g = cond (eqb (lightPenIn g) 1) (putLightPen 2 (withBit false 1 g)) (withBit false 1 g)

@@ -9,6 +9,7 @@ use Rattle.parts.specs.declared.format.Format.the-variants.{Ef9366}
 use Rattle.rules.specs.Sequence.{Work, Idle, Steps, Clear, Off}
 use Rattle.rules.specs.State.{State, regs, flags, state}
 use Rattle.rules.specs.Figure.{Tables, tables}
+use Rattle.rules.specs.Tables.Rows.{framesTold}
 use Rattle.rules.specs.Tables.Computed.{computed as of-rules}
 use Rattle.lists.specs.Item.{Item, Set, Command}
 use Rattle.lists.specs.Play.{taking, done, itemDots, doneAll, listDots}
@@ -25,7 +26,7 @@ lettered = tables (replicate 165 0 ++ (0x01 ∷ replicate 314 0))
 unfoldable pub workRow : Work → List ℕ
 workRow Idle = 0 ∷ 0 ∷ 0 ∷ []
 workRow (Steps c p) = 1 ∷ c ∷ p ∷ []
-workRow (Clear f o) = 2 ∷ told f ∷ told o ∷ []
+workRow (Clear f o) = 2 ∷ told f ∷ framesTold o ∷ []
 
 unfoldable pub stateRow : State → List ℕ
 stateRow s =

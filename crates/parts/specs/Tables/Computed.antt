@@ -2,7 +2,7 @@
 -- Assumes nothing.
 use Rattle.basis.specs.Reading.{computed as reading}
 use Rattle.picture.specs.Tables.Computed.{computed as of-picture}
-use Rattle.parts.specs.Format.{width, height, window, bytes, widthBits, heightBits}
+use Rattle.parts.specs.Format.{width, height, window, bytes, frames, widthBits, heightBits}
 use Rattle.parts.specs.Command.{kind}
 use Rattle.parts.specs.Refusal.{lowest}
 use Rattle.parts.specs.Address.{addressOf}
@@ -11,5 +11,5 @@ use Rattle.parts.specs.Tables.Addresses.{onLow, onHigh, weighed, sums, o
 use Rattle.parts.specs.Tables.Readings.{readings}
 
 unfoldable pub computed : Unit {0}
-unfolding reading of-picture width height window bytes widthBits heightBits kind lowest addressOf formatted seen formats named kinds commands four refusals onLow onHigh weighed sums onMsl outputs expected everywhere singly addresses readings
+unfolding reading of-picture width height window bytes frames widthBits heightBits kind lowest addressOf formatted seen formats named kinds commands four refusals onLow onHigh weighed sums onMsl outputs expected everywhere singly addresses readings
 computed = tt

@@ -11,23 +11,23 @@ use Rattle.parts.specs.declared.format.Format.{Format}
 use Rattle.parts.specs.declared.format.Format.the-variants.{Ef9366, FmatHigh, FmatLow}
 use Rattle.parts.specs.declared.command.Kind.{Kind}
 use Rattle.parts.specs.declared.command.Kind.the-variants.{NoCycle, OneCycle, Vector, Character, Block}
-use Rattle.parts.specs.Format.{width, height, window, bytes, widthBits, heightBits}
+use Rattle.parts.specs.Format.{width, height, window, bytes, frames, widthBits, heightBits}
 use Rattle.parts.specs.Command.{kind, lettering, lining, prompting}
 use Rattle.parts.specs.Refusal.{lowest}
 
--- width, height, bytes, bits of X, bits of Y
+-- width, height, bytes, frames of a clear, bits of X, bits of Y
 unfoldable pub formatted : Format → List ℕ
-formatted f = width f ∷ height f ∷ bytes f ∷ widthBits f ∷ heightBits f ∷ []
+formatted f = width f ∷ height f ∷ bytes f ∷ frames f ∷ widthBits f ∷ heightBits f ∷ []
 
 unfoldable pub seen : Window → List ℕ
 seen w = w .width ∷ w .height ∷ told (w .cyclic) ∷ []
 
--- EF9366 512 × 256, 16,384 bytes; FMAT high 512 × 512, 32,768; FMAT low 256 × 256, 8,192
+-- EF9366 512 × 256, 16,384 bytes; FMAT high 512 × 512, 32,768, where a clear takes two frames; FMAT low 256 × 256, 8,192
 unfoldable pub formats : List Reading
 formats =
-    (formatted Ef9366, 512 ∷ 256 ∷ 16384 ∷ 9 ∷ 8 ∷ [])
-    ∷ (formatted FmatHigh, 512 ∷ 512 ∷ 32768 ∷ 9 ∷ 9 ∷ [])
-    ∷ (formatted FmatLow, 256 ∷ 256 ∷ 8192 ∷ 8 ∷ 8 ∷ [])
+    (formatted Ef9366, 512 ∷ 256 ∷ 16384 ∷ 1 ∷ 9 ∷ 8 ∷ [])
+    ∷ (formatted FmatHigh, 512 ∷ 512 ∷ 32768 ∷ 2 ∷ 9 ∷ 9 ∷ [])
+    ∷ (formatted FmatLow, 256 ∷ 256 ∷ 8192 ∷ 1 ∷ 8 ∷ 8 ∷ [])
     ∷ (seen (window Ef9366 false), 512 ∷ 256 ∷ 0 ∷ [])
     ∷ (seen (window Ef9366 true), 512 ∷ 256 ∷ 1 ∷ [])
     ∷ (seen (window FmatHigh false), 512 ∷ 512 ∷ 0 ∷ [])

@@ -124,7 +124,7 @@ freeFrames =
           ++ pictureVb (stated (but 15 pen (doing 5 (but 1 0x03 rich)))) true (1 ∷ 2 ∷ [])) 0 3,
       joined (λ pen. 0 ∷ 0 ∷ 255 ∷ 255 ∷ []) 0 3,
     )
-    ∷ (pictureVb (stated (but 0 1 (doing 3 rich))) true (replicate 32768 1), replicate 32768 0)
+    ∷ (pictureVb (stated (but 0 1 (but 14 3 (doing 3 rich)))) true (replicate 32768 1), replicate 32768 0)
     -- 0C by bit 1 of CTRL1 alone
     ∷ (joined (λ c1. pictured 5 c1 0 1) 0 128, joined (λ i. replicate 6 0 ++ replicate 6 255) 0 32)
     -- the rise that ends a clear and the pen's sequence, and an edge, under every CTRL1: bits 4, 5 and 6 alone set flags

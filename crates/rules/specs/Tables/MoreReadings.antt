@@ -9,7 +9,7 @@ use Rattle.basis.specs.Reading.{Reading}
 use Rattle.picture.specs.Dot.{paint}
 use Rattle.parts.specs.declared.format.Format.{Format}
 use Rattle.parts.specs.declared.format.Format.the-variants.{Ef9366, FmatHigh, FmatLow}
-use Rattle.rules.specs.Sequence.{Steps, Clear, Waiting, Open}
+use Rattle.rules.specs.Sequence.{Frames, Steps, Clear, noFrames, Waiting, Open}
 use Rattle.rules.specs.State.{State, regs, withRegs, withWork, withLightPen, withVb, fresh}
 use Rattle.rules.specs.Figure.{tables}
 use Rattle.rules.specs.Calls.{memory, written, readOut, granted, blanked, struck, located}
@@ -111,7 +111,7 @@ clears =
     -- 0C lights all with the pen, up or down, at the second rise and not before
     ∷ (drawn card (W 1 2 ∷ W 0 0x0C ∷ VB true ∷ VB false ∷ []), dark Ef9366)
     ∷ (drawn card (W 1 2 ∷ W 0 0x0C ∷ frame []), full Ef9366)
-    ∷ (drawn (new FmatHigh) (W 1 2 ∷ W 0 0x0C ∷ frame []), full FmatHigh)
+    ∷ (drawn (new FmatHigh) (W 1 2 ∷ W 0 0x0C ∷ frame (VB false ∷ VB true ∷ [])), full FmatHigh)
     ∷ (drawn (new FmatLow) (W 1 2 ∷ W 0 0x0C ∷ frame []), full FmatLow)
     -- accepted with VB high, the next fall opens the frame
     ∷ (drawn card (VB true ∷ W 1 2 ∷ W 0 0x0C ∷ VB false ∷ VB true ∷ []), full Ef9366)
@@ -314,6 +314,10 @@ withRow x y c1 c2 xl = withRegs (regs c1 c2 0x11 0 0 x y xl 255) (fresh Ef9366)
 unfoldable pub running : ℕ → ℕ → ℕ → State
 running c2 c p = withWork (Steps c p) (withRow 0 0 0 c2 0)
 
+-- a clear inside its first frame
+unfoldable pub inFrame : Frames
+inFrame = record { inside = true; over = 0 }
+
 -- the numbers that reading STATUS gives while each code below c is said to run
 unfoldable pub codes : ℕ → List ℕ
 codes zero = []
@@ -357,9 +361,9 @@ states =
     ∷ (six (running 4 0x11 0), takenBusy)
     ∷ (six (running 4 0x0F 0), takenBusy)
     -- VB high inside an open frame
-    ∷ (six (withVb true (withWork (Clear false true) (fresh Ef9366))), refused)
-    ∷ (six (withVb true (withWork (Clear true false) (fresh Ef9366))), takenBusy)
-    ∷ (six (withWork (Clear true true) (fresh Ef9366)), takenBusy)
+    ∷ (six (withVb true (withWork (Clear false inFrame) (fresh Ef9366))), refused)
+    ∷ (six (withVb true (withWork (Clear true noFrames) (fresh Ef9366))), takenBusy)
+    ∷ (six (withWork (Clear true inFrame) (fresh Ef9366)), takenBusy)
     ∷ (six (withVb true (withLightPen Open (fresh Ef9366))), refused)
     ∷ (six (withVb true (withLightPen Waiting (fresh Ef9366))), taken)
     ∷ (six (withLightPen Open (fresh Ef9366)), taken)

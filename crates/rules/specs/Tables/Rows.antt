@@ -1,8 +1,8 @@
 -- A state as a row of numbers, so that a reading shows all of it: 0 the format; 1 to 9 CTRL1, CTRL2, CSIZE, DELTAX, DELTAY, X, Y,
 -- XLP, YLP; 10 what runs (0 nothing, 1 a command with cycles, 2 a clear), 11 its code, 12 its progress, 13 whether it fills, 14
--- whether its frame is open; 15 the pen's sequence (0 none, 1 waiting, 2 open); 16 VB; 17 to 19 the flags for pen end, VB and ready.
+-- its frames, 1 where one is open and 2 for each that is over; 15 the pen's sequence (0 none, 1 waiting, 2 open); 16 VB; 17 to 19 the flags for pen end, VB and ready.
 -- Assumes nothing.
-use Prim.Native.Nat.{ℕ}
+use Prim.Native.Nat.{ℕ, _+_, _*_, _/_, _%_}
 use mathlib.Core.Bool.{Bool, cond}
 use mathlib.Core.List.{List, [], _∷_}
 use lib.Dec.{eqb}
@@ -10,7 +10,7 @@ use lib.ListN.{getD, set}
 use Rattle.basis.specs.Reading.{told}
 use Rattle.parts.specs.declared.format.Format.{Format}
 use Rattle.parts.specs.declared.format.Format.the-variants.{Ef9366, FmatHigh, FmatLow}
-use Rattle.rules.specs.Sequence.{Work, Idle, Steps, Clear, LightPen, Off, Waiting, Open}
+use Rattle.rules.specs.Sequence.{Frames, Work, Idle, Steps, Clear, LightPen, Off, Waiting, Open}
 use Rattle.rules.specs.State.{State}
 use Rattle.rules.specs.Calls.{Answer, written, readOut, struck}
 
@@ -30,7 +30,10 @@ formatNamed n = cond (eqb n 0) Ef9366 (cond (eqb n 1) FmatHigh FmatLow)
 unfoldable pub penNamed : ℕ → LightPen
 penNamed n = cond (eqb n 0) Off (cond (eqb n 1) Waiting Open)
 
-unfoldable pub workNamed : ℕ → ℕ → ℕ → Bool → Bool → Work
+unfoldable pub framesNamed : ℕ → Frames
+framesNamed n = record { inside = high (n % 2); over = n / 2 }
+
+unfoldable pub workNamed : ℕ → ℕ → ℕ → Bool → Frames → Work
 workNamed n c p f o = cond (eqb n 0) Idle (cond (eqb n 1) (Steps c p) (Clear f o))
 
 -- the state of a row
@@ -49,7 +52,7 @@ stated r =
         xlp = nth 8 r;
         ylp = nth 9 r;
       };
-      work = workNamed (nth 10 r) (nth 11 r) (nth 12 r) (high (nth 13 r)) (high (nth 14 r));
+      work = workNamed (nth 10 r) (nth 11 r) (nth 12 r) (high (nth 13 r)) (framesNamed (nth 14 r));
       lightPen = penNamed (nth 15 r);
       vb = high (nth 16 r);
       flags = record { lightPen = high (nth 17 r); vb = high (nth 18 r); ready = high (nth 19 r) };
@@ -65,10 +68,13 @@ penTold Off = 0
 penTold Waiting = 1
 penTold Open = 2
 
+unfoldable pub framesTold : Frames → ℕ
+framesTold o = told (o .inside) + 2 * o .over
+
 unfoldable pub workTold : Work → List ℕ → List ℕ
 workTold Idle rest = 0 ∷ 0 ∷ 0 ∷ 0 ∷ 0 ∷ rest
 workTold (Steps c p) rest = 1 ∷ c ∷ p ∷ 0 ∷ 0 ∷ rest
-workTold (Clear f o) rest = 2 ∷ 0 ∷ 0 ∷ told f ∷ told o ∷ rest
+workTold (Clear f o) rest = 2 ∷ 0 ∷ 0 ∷ told f ∷ framesTold o ∷ rest
 
 -- the row of a state
 unfoldable pub shown : State → List ℕ

@@ -27,7 +27,7 @@ pub record GoodSteps (r : Regs) (c p : ℕ) : Type 0 where
 abbrev pub GoodWork : Regs → Bool → Work → Type 0
 GoodWork r vb Idle = Unit {0}
 GoodWork r vb (Steps c p) = GoodSteps r c p
-GoodWork r vb (Clear f o) = (vb && o) ≡ false
+GoodWork r vb (Clear f o) = (vb && o .inside) ≡ false
 
 -- and inside an open frame of the pen
 pub record Good (s : State) : Type 0 where

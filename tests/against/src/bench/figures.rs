@@ -1,6 +1,7 @@
 //! Commands about to run, each on a card of its own: what the workloads draw.
 
 use super::runner::Runner;
+use second::Format;
 
 #[derive(Clone, Copy, PartialEq, Eq, Debug)]
 pub enum Figures {
@@ -96,5 +97,5 @@ fn character<R: Runner>(ctrl1: u8, csize: u8, x: u16, code: u8) -> R {
 }
 
 fn at<R: Runner>(x: u16, y: u16) -> R {
-    set(R::fresh(), &[(8, (x >> 8) as u8), (9, x as u8), (10, (y >> 8) as u8), (11, y as u8)])
+    set(R::fresh(Format::Ef9366), &[(8, (x >> 8) as u8), (9, x as u8), (10, (y >> 8) as u8), (11, y as u8)])
 }

@@ -1,7 +1,8 @@
-//! A plain card, the baseline to be measured against: document 01 in straightforward safe Rust, as a good engineer writes
-//! it in a day. Its state lies in fields, a command keeps what its next cycle needs, cycles follow one another by additions,
-//! and each dot is clipped and written by itself. No dot costs a division, and no run of dots is painted at once. Its state
-//! is its own and always a possible one, so refusal 1 cannot come up. It has all calls but the address outputs.
+//! A plain card, the baseline to be measured against: document 01, its rule for clears mended by request b) of document 02,
+//! in straightforward safe Rust, as a good engineer writes it in a day. Its state lies in fields, a command keeps what its
+//! next cycle needs, cycles follow one another by additions, and each dot is clipped and written by itself. No dot costs a
+//! division, and no run of dots is painted at once. Its state is its own and always a possible one, so refusal 1 cannot
+//! come up. It has all calls but the address outputs.
 
 mod character;
 mod command;
@@ -41,10 +42,11 @@ pub enum Running {
     OneCycle,
     Vector(Vector),
     Character(Character),
-    /// 04, 06, 07 and 0C; open once VB has fallen.
+    /// 04, 06, 07 and 0C; open once VB has fallen, and again for each frame that is left.
     Clear {
         fill: bool,
         open: bool,
+        frames_left: u8,
     },
 }
 

@@ -1,4 +1,5 @@
-//! The contenders behind the same few calls, on an EF9366. None of them is asked for what it would refuse.
+//! The contenders behind the same few calls; pictures in files are those of an EF9366. None of them is asked for what it
+//! would refuse.
 
 use super::morning::Draws;
 use super::plain::{self, Plain};
@@ -7,10 +8,10 @@ use second::{Format, State};
 
 pub trait Runner: Draws + Clone {
     /// A fresh card once VB has risen, which it has not yet in a fresh state.
-    fn fresh() -> Self;
+    fn fresh(format: Format) -> Self;
     fn read(&mut self, address: u8) -> u16;
-    /// From the command to its end, from VB high to VB high.
-    fn clear(&mut self, picture: &mut [u8]);
+    /// From the command to its end after so many frames, from VB high to VB high.
+    fn clear(&mut self, frames: u8, picture: &mut [u8]);
     fn write_pbm(picture: &[u8], buffer: &mut [u8]);
     fn read_pbm(file: &[u8], picture: &mut [u8]);
 }
@@ -35,8 +36,9 @@ impl Draws for Ours {
 
 #[cfg(linked)]
 impl Runner for Ours {
-    fn fresh() -> Ours {
-        Ours(crate::ffi::set_vb(crate::ffi::fresh(0).state, 1, &mut [0; 16_384]).state)
+    fn fresh(format: Format) -> Ours {
+        let fresh = crate::ffi::fresh(crate::convert::format_number(format)).state;
+        Ours(crate::ffi::set_vb(fresh, 1, &mut vec![0; format.bytes()]).state)
     }
 
     fn read(&mut self, address: u8) -> u16 {
@@ -45,10 +47,12 @@ impl Runner for Ours {
         answer.value
     }
 
-    fn clear(&mut self, picture: &mut [u8]) {
+    fn clear(&mut self, frames: u8, picture: &mut [u8]) {
         self.write(0, 0x04);
-        self.0 = crate::ffi::set_vb(self.0, 0, picture).state;
-        self.0 = crate::ffi::set_vb(self.0, 1, picture).state;
+        for _ in 0..frames {
+            self.0 = crate::ffi::set_vb(self.0, 0, picture).state;
+            self.0 = crate::ffi::set_vb(self.0, 1, picture).state;
+        }
     }
 
     fn write_pbm(picture: &[u8], buffer: &mut [u8]) {
@@ -77,8 +81,8 @@ impl Draws for Formulas {
 }
 
 impl Runner for Formulas {
-    fn fresh() -> Formulas {
-        Formulas(second::set_vb(&second::fresh(Format::Ef9366), true, &mut [0; 16_384]).state)
+    fn fresh(format: Format) -> Formulas {
+        Formulas(second::set_vb(&second::fresh(format), true, &mut vec![0; format.bytes()]).state)
     }
 
     fn read(&mut self, address: u8) -> u16 {
@@ -87,10 +91,12 @@ impl Runner for Formulas {
         answer.value
     }
 
-    fn clear(&mut self, picture: &mut [u8]) {
+    fn clear(&mut self, frames: u8, picture: &mut [u8]) {
         self.write(0, 0x04);
-        self.0 = second::set_vb(&self.0, false, picture).state;
-        self.0 = second::set_vb(&self.0, true, picture).state;
+        for _ in 0..frames {
+            self.0 = second::set_vb(&self.0, false, picture).state;
+            self.0 = second::set_vb(&self.0, true, picture).state;
+        }
     }
 
     fn write_pbm(picture: &[u8], buffer: &mut [u8]) {
@@ -113,9 +119,9 @@ impl Draws for Plain {
 }
 
 impl Runner for Plain {
-    fn fresh() -> Plain {
-        let mut card = Plain::new(Format::Ef9366);
-        card.set_vb(true, &mut [0; 16_384]);
+    fn fresh(format: Format) -> Plain {
+        let mut card = Plain::new(format);
+        card.set_vb(true, &mut vec![0; format.bytes()]);
         card
     }
 
@@ -123,10 +129,12 @@ impl Runner for Plain {
         Plain::read(self, address).map_or(0, u16::from)
     }
 
-    fn clear(&mut self, picture: &mut [u8]) {
+    fn clear(&mut self, frames: u8, picture: &mut [u8]) {
         self.write(0, 0x04);
-        self.set_vb(false, picture);
-        self.set_vb(true, picture);
+        for _ in 0..frames {
+            self.set_vb(false, picture);
+            self.set_vb(true, picture);
+        }
     }
 
     fn write_pbm(picture: &[u8], buffer: &mut [u8]) {
@@ -149,15 +157,15 @@ impl Draws for Tuned {
 }
 
 impl Runner for Tuned {
-    fn fresh() -> Tuned {
-        Tuned::new(Format::Ef9366)
+    fn fresh(format: Format) -> Tuned {
+        Tuned::new(format)
     }
 
     fn read(&mut self, address: u8) -> u16 {
         Tuned::read(self, address).map_or(0, u16::from)
     }
 
-    fn clear(&mut self, picture: &mut [u8]) {
+    fn clear(&mut self, _: u8, picture: &mut [u8]) {
         picture.fill(0);
     }
 

@@ -3,7 +3,8 @@
 use super::figures::{set, Figures, Start, CYCLIC, DOWN, LETTERS, UP, VECTORS};
 use super::morning;
 use super::runner::Runner;
-use crate::draw::arguments::file_bytes;
+use crate::draw::arguments::{bytes, file_bytes};
+use crate::draw::count;
 use crate::draw::damage::dots::without_white_space;
 use crate::draw::pbm;
 use crate::random::Random;
@@ -21,7 +22,8 @@ pub enum Workload {
     ShortVectors,
     Writes,
     Reads,
-    Clears,
+    /// 04 from its command through its frames, on the format.
+    Clears(Format),
     Morning,
     PbmOut,
     PbmIn(Dots),
@@ -37,7 +39,7 @@ pub enum Dots {
 }
 
 /// By name, what it is, and the unit its time is given for.
-pub const ALL: [(&str, Workload, &str); 25] = [
+pub const ALL: [(&str, Workload, &str); 26] = [
     ("long-vectors", Workload::Whole(VECTORS), "cycle"),
     ("dotted", Workload::Whole(vectors(DOWN, 3, Start::Inside)), "cycle"),
     ("pen-up", Workload::Whole(vectors(UP, 0, Start::Inside)), "cycle"),
@@ -58,7 +60,8 @@ pub const ALL: [(&str, Workload, &str); 25] = [
     ("read", Workload::Reads, "call"),
     ("status-vectors", Workload::Looks(VECTORS), "call"),
     ("status-letters", Workload::Looks(LETTERS), "call"),
-    ("clear", Workload::Clears, "clear"),
+    ("clear", Workload::Clears(Format::Ef9366), "clear"),
+    ("clear-two-frames", Workload::Clears(Format::Ef9365High), "clear"),
     ("morning", Workload::Morning, "morning"),
     ("pbm-out", Workload::PbmOut, "dot"),
     ("pbm-in", Workload::PbmIn(Dots::InLines), "dot"),
@@ -109,7 +112,14 @@ impl Workload {
         if self == Workload::PbmOut {
             return random_dots();
         }
-        vec![self.paper(); 16_384]
+        vec![self.paper(); bytes(self.format())]
+    }
+
+    fn format(self) -> Format {
+        match self {
+            Workload::Clears(format) => format,
+            _ => Format::Ef9366,
+        }
     }
 
     fn file(self) -> Vec<u8> {
@@ -124,7 +134,7 @@ impl Workload {
     /// Every byte of the picture before: lit where a pass leaves dots dark, so that what it did shows.
     fn paper(self) -> u8 {
         match self {
-            Workload::Clears | Workload::Morning => 0xFF,
+            Workload::Clears(_) | Workload::Morning => 0xFF,
             _ => 0,
         }
     }
@@ -134,11 +144,15 @@ impl Workload {
             Workload::Whole(figures) | Workload::Portions(figures, _) | Workload::Looks(figures) => {
                 figures.cards()
             }
-            Workload::ShortVectors => vec![set(R::fresh(), &[(1, 3), (8, 1), (11, 128)])],
-            Workload::Clears => vec![R::fresh()],
-            Workload::Writes | Workload::Reads | Workload::Morning => vec![set(R::fresh(), &[(1, 3)])],
+            Workload::ShortVectors => vec![set(self.fresh(), &[(1, 3), (8, 1), (11, 128)])],
+            Workload::Clears(_) => vec![self.fresh()],
+            Workload::Writes | Workload::Reads | Workload::Morning => vec![set(self.fresh(), &[(1, 3)])],
             Workload::PbmOut | Workload::PbmIn(_) => Vec::new(),
         }
+    }
+
+    fn fresh<R: Runner>(self) -> R {
+        R::fresh(self.format())
     }
 
     fn calls(self) -> Vec<u16> {
@@ -161,7 +175,7 @@ impl Workload {
             }
             Workload::ShortVectors => 128,
             Workload::Writes | Workload::Reads => 16 * REGISTERS.len() as u64,
-            Workload::Clears | Workload::Morning => 1,
+            Workload::Clears(_) | Workload::Morning => 1,
             Workload::PbmOut | Workload::PbmIn(_) => Format::Ef9366.dots() as u64,
         }
     }
@@ -174,7 +188,9 @@ impl Workload {
             Workload::ShortVectors => short_vectors(scene),
             Workload::Writes => (0..16).for_each(|value| writes(&mut scene.cards[0], value)),
             Workload::Reads => (0..16).for_each(|_| reads(&mut scene.cards[0])),
-            Workload::Clears => scene.cards[0].clear(black_box(&mut scene.picture)),
+            Workload::Clears(format) => {
+                scene.cards[0].clear(count::frames(format), black_box(&mut scene.picture));
+            }
             Workload::Morning => {
                 let Scene { cards, forecast, picture, table, .. } = scene;
                 morning::whole(&mut cards[0], black_box(forecast), picture, table);

@@ -46,7 +46,7 @@ pub fn command(random: &mut Random) -> u8 {
         (18, Class::Character),
         (9, Class::Block),
         (3, Class::OneCycle),
-        (8, Class::Clear),
+        (10, Class::Clear),
         (9, Class::Pen),
         (10, Class::NoTime),
     ]);

@@ -1,6 +1,7 @@
-//! How many cycles a command takes, said once more so that causes can be planted without asking either card.
+//! How many cycles and how many frames a command takes, said once more so that causes and left-overs can be planted
+//! without asking either card.
 
-use second::{State, Work};
+use second::{Format, State, Work};
 
 /// None for a clear and for a command that takes no time.
 pub fn cycles(state: &State, code: u8) -> Option<u16> {
@@ -32,5 +33,13 @@ pub fn rest(state: &State) -> u16 {
     match state.work {
         Work::Steps { code, done } => cycles(state, code).map_or(0, |count| count.saturating_sub(done)),
         Work::Idle | Work::Clear { .. } => 0,
+    }
+}
+
+/// Of a clear: the picture changes and ready rises when the last of them ends.
+pub fn frames(format: Format) -> u8 {
+    match format {
+        Format::Ef9365High => 2,
+        Format::Ef9366 | Format::Ef9365Low => 1,
     }
 }

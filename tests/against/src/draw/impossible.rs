@@ -4,11 +4,11 @@ use super::codes::{self, Class};
 use super::count;
 use super::states::{good, registers, running, settled, TILT};
 use crate::random::Random;
-use second::{ClearKind, Pen, State, Work};
+use second::{ClearKind, Format, Pen, State, Work};
 
 type Planted = fn(&mut Random) -> State;
 
-pub const CAUSES: [(&str, Planted); 31] = [
+pub const CAUSES: [(&str, Planted); 33] = [
     ("X above 4095", |random| State { x: random.among(4096, 65_535), ..good(random) }),
     ("Y above 4095", |random| State { y: random.among(4096, 65_535), ..good(random) }),
     ("CTRL1 above 127", |random| with_ctrl1(good(random), 0x80)),
@@ -38,7 +38,9 @@ pub const CAUSES: [(&str, Planted); 31] = [
     ("a character 20 to 7F running tilted", |random| tilted(random, character)),
     ("0A running tilted", |random| tilted(random, |_| 0x0A)),
     ("0B running tilted", |random| tilted(random, |_| 0x0B)),
-    ("VB high in the open frame of a clear", vb_high_in_clear),
+    ("VB high in the one frame of a clear", |random| vb_high_in_clear(random, &ONE_FRAME, 0)),
+    ("VB high in the first frame of two of a clear", |random| vb_high_in_clear(random, &TWO_FRAMES, 0)),
+    ("VB high in the second frame of two of a clear", |random| vb_high_in_clear(random, &TWO_FRAMES, 1)),
     ("VB high in the open frame of the pen", vb_high_in_pen_frame),
 ];
 
@@ -104,16 +106,20 @@ fn tilted(random: &mut Random, code: fn(&mut Random) -> u8) -> State {
     State { ctrl2: state.ctrl2 | TILT, ..state }
 }
 
-fn vb_high_in_clear(random: &mut Random) -> State {
+const ONE_FRAME: [Format; 2] = [Format::Ef9366, Format::Ef9365Low];
+const TWO_FRAMES: [Format; 1] = [Format::Ef9365High];
+
+fn vb_high_in_clear(random: &mut Random, formats: &[Format], frames_done: u8) -> State {
     let kind = random.pick(&[ClearKind::Screen, ClearKind::Fill]);
+    let work = Work::Clear { kind, open: true, frames_done };
     let pen = random.pick(&[Pen::Off, Pen::Waiting]);
-    State { work: Work::Clear { kind, open: true }, pen, vb: true, ..registers(random) }
+    State { format: random.pick(formats), work, pen, vb: true, ..registers(random) }
 }
 
 fn vb_high_in_pen_frame(random: &mut Random) -> State {
     let mut state = good(random);
-    if let Work::Clear { kind, .. } = state.work {
-        state.work = Work::Clear { kind, open: false };
+    if let Work::Clear { open, .. } = &mut state.work {
+        *open = false;
     }
     State { pen: Pen::Open, vb: true, ..state }
 }

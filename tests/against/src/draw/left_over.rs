@@ -2,11 +2,11 @@
 //! as 0.
 
 use super::codes;
-use super::states::{registers, running, settled};
-use crate::convert::flattened;
+use super::states::{clearing, registers, running, settled};
+use crate::convert::{flattened, format_of};
 use crate::flat::{self, Flat};
 use crate::random::Random;
-use second::{ClearKind, State, Work};
+use second::{Format, State};
 
 /// What a state does, which decides what is in use.
 #[derive(Clone, Copy, PartialEq, Eq, Debug)]
@@ -14,28 +14,31 @@ pub enum Doing {
     Idle,
     Steps,
     Clear,
+    /// A clear that has only one frame, so that no first one can be over.
+    ClearOn(Format),
 }
 
 type Planted = fn(&mut Random, Flat) -> Flat;
 
-pub const KINDS: [(&str, Doing, Planted); 17] = [
+pub const KINDS: [(&str, Doing, Planted); 18] = [
     ("idle with a code", Doing::Idle, code),
     ("idle with a progress", Doing::Idle, progress),
     ("idle with 0C set", Doing::Idle, is_0c),
     ("idle with an open frame", Doing::Idle, open_frame),
-    ("idle with bit 7 of modes", Doing::Idle, modes_bit_7),
+    ("idle with a first frame over", Doing::Idle, first_frame_over),
     ("idle with bit 0 of signals", Doing::Idle, signals_bit_0),
     ("idle with bit 7 of signals", Doing::Idle, signals_bit_7),
     ("steps with 0C set", Doing::Steps, is_0c),
     ("steps with an open frame", Doing::Steps, open_frame),
-    ("steps with bit 7 of modes", Doing::Steps, modes_bit_7),
+    ("steps with a first frame over", Doing::Steps, first_frame_over),
     ("steps with bit 0 of signals", Doing::Steps, signals_bit_0),
     ("steps with bit 7 of signals", Doing::Steps, signals_bit_7),
     ("a clear with a code", Doing::Clear, code),
     ("a clear with a progress", Doing::Clear, progress),
-    ("a clear with bit 7 of modes", Doing::Clear, modes_bit_7),
     ("a clear with bit 0 of signals", Doing::Clear, signals_bit_0),
     ("a clear with bit 7 of signals", Doing::Clear, signals_bit_7),
+    ("a clear on the EF9366 with a first frame over", Doing::ClearOn(Format::Ef9366), first_frame_over),
+    ("a clear on FMAT low with a first frame over", Doing::ClearOn(Format::Ef9365Low), first_frame_over),
 ];
 
 fn code(random: &mut Random, state: Flat) -> Flat {
@@ -55,8 +58,8 @@ fn open_frame(_: &mut Random, state: Flat) -> Flat {
     Flat { modes: state.modes | flat::CLEAR_IS_OPEN, ..state }
 }
 
-fn modes_bit_7(_: &mut Random, state: Flat) -> Flat {
-    Flat { modes: state.modes | flat::MODES_BIT_7, ..state }
+fn first_frame_over(_: &mut Random, state: Flat) -> Flat {
+    Flat { modes: state.modes | flat::FIRST_FRAME_OVER, ..state }
 }
 
 fn signals_bit_0(_: &mut Random, state: Flat) -> Flat {
@@ -83,26 +86,26 @@ fn good(random: &mut Random, doing: Doing) -> State {
             let code = codes::stepping(random);
             running(random, registers, code)
         }
-        Doing::Clear => {
-            let kind = random.pick(&[ClearKind::Screen, ClearKind::Fill]);
-            settled(State { work: Work::Clear { kind, open: random.flag() }, ..registers })
-        }
+        Doing::Clear => clearing(random, registers),
+        Doing::ClearOn(format) => clearing(random, State { format, ..registers }),
     }
 }
 
 /// The same bytes with left-overs in about half of the places that are not in use; what the state stands for stays.
 pub fn scattered(random: &mut Random, state: Flat) -> Flat {
-    let doing = doing(&state);
-    let fitting = KINDS.iter().filter(|(_, beside, _)| Some(*beside) == doing);
+    let fitting = KINDS.iter().filter(|(_, doing, _)| fits(*doing, &state));
     fitting.fold(state, |state, (_, _, plant)| if random.flag() { plant(random, state) } else { state })
 }
 
-/// None where the number names no kind of work.
-fn doing(state: &Flat) -> Option<Doing> {
-    match state.modes & flat::WORK {
-        flat::IDLE => Some(Doing::Idle),
-        flat::STEPS => Some(Doing::Steps),
-        flat::CLEAR => Some(Doing::Clear),
-        _ => None,
+/// What names no kind of work fits nothing, and what names no format is no clear of one frame.
+fn fits(doing: Doing, state: &Flat) -> bool {
+    let work = state.modes & flat::WORK;
+    match doing {
+        Doing::Idle => work == flat::IDLE,
+        Doing::Steps => work == flat::STEPS,
+        Doing::Clear => work == flat::CLEAR,
+        Doing::ClearOn(format) => {
+            work == flat::CLEAR && format_of(state.modes & flat::FORMAT) == Some(format)
+        }
     }
 }

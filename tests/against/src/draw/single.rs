@@ -6,7 +6,7 @@ use crate::call::Call;
 use crate::convert::{flattened, state_of};
 use crate::flat::Flat;
 use crate::random::Random;
-use second::{fresh, Format, State};
+use second::{fresh, Format, State, Work};
 
 /// What is known of a call before: of its state, what refusal number 1 has to do with it.
 #[derive(Clone, Copy, PartialEq, Eq, Debug)]
@@ -63,10 +63,20 @@ pub fn call(random: &mut Random, flat: &Flat) -> Call {
         0..=2 => arguments::write(random),
         3 => arguments::command(random),
         4 | 5 => arguments::read(random),
-        6..=9 => arguments::grant(random, &state, wrong),
+        6 => arguments::grant(random, &state, wrong),
+        7..=9 => waited_for(random, &state, wrong),
         10..=12 => arguments::set_vb(random, &state, wrong),
         13 | 14 => arguments::lpck(random),
         _ => Call::Address,
+    }
+}
+
+/// What makes the state go on.
+fn waited_for(random: &mut Random, state: &State, wrong: WrongLengths) -> Call {
+    match state.work {
+        Work::Idle => arguments::command(random),
+        Work::Steps { .. } => arguments::grant(random, state, wrong),
+        Work::Clear { .. } => arguments::set_vb(random, state, wrong),
     }
 }
 

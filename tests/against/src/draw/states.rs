@@ -8,17 +8,20 @@ pub const FORMATS: [Format; 3] = [Format::Ef9366, Format::Ef9365High, Format::Ef
 pub const TILT: u8 = 1 << 2;
 
 pub fn good(random: &mut Random) -> State {
-    let mut state = registers(random);
-    let work = match random.below(8) {
-        0 | 1 => Work::Idle,
-        2 => Work::Clear { kind: random.pick(&[ClearKind::Screen, ClearKind::Fill]), open: random.flag() },
+    let registers = registers(random);
+    match random.below(9) {
+        0 | 1 => settled(registers),
+        2 | 3 => {
+            // FMAT high twice: there a clear has twice as many moments.
+            let [first, second, third] = FORMATS;
+            let format = random.pick(&[first, second, second, third]);
+            clearing(random, State { format, ..registers })
+        }
         _ => {
             let code = codes::stepping(random);
-            return running(random, state, code);
+            running(random, registers, code)
         }
-    };
-    state.work = work;
-    settled(state)
+    }
 }
 
 /// A good state in which the command runs, at any progress.
@@ -33,6 +36,16 @@ pub fn running(random: &mut Random, mut state: State, code: u8) -> State {
         _ => random.among(0, count - 1),
     };
     state.work = Work::Steps { code, done };
+    settled(state)
+}
+
+/// A good state in which a clear waits for one of its frames or is in it. 04, 06 and 07 end alike.
+pub fn clearing(random: &mut Random, mut state: State) -> State {
+    state.work = Work::Clear {
+        kind: random.pick(&[ClearKind::Screen, ClearKind::Fill]),
+        open: random.flag(),
+        frames_done: random.below(u64::from(count::frames(state.format))) as u8,
+    };
     settled(state)
 }
 

@@ -2,6 +2,7 @@
 //! never by asking the model.
 #![allow(dead_code)] // each test file uses only some of them
 
+pub mod clears;
 pub mod dots;
 pub mod glyph;
 pub mod numbers;
@@ -11,6 +12,10 @@ pub mod random;
 use second::{cycles, fresh, lpck, read, set_vb, write, ClearKind, Flags, Format, Pen, State, Work};
 
 pub const FORMATS: [Format; 3] = [Format::Ef9366, Format::Ef9365High, Format::Ef9365Low];
+
+/// Those where a clear takes one frame; on the other it takes two.
+pub const ONE_FRAME: [Format; 2] = [Format::Ef9366, Format::Ef9365Low];
+pub const TWO_FRAMES: Format = Format::Ef9365High;
 
 pub const CLEARS: [(u8, ClearKind); 4] = [
     (0x04, ClearKind::Screen),

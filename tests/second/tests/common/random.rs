@@ -44,7 +44,10 @@ impl Random {
     fn work(&mut self) -> Work {
         match self.below(8) {
             0 | 1 => Work::Idle,
-            2 => Work::Clear { kind: self.pick(&CLEARS).1, open: self.flag() },
+            2 => {
+                let frames_done = self.pick(&[0, 0, 1, 1, 2, 255]);
+                Work::Clear { kind: self.pick(&CLEARS).1, open: self.flag(), frames_done }
+            }
             _ => Work::Steps { code: self.byte(), done: self.below(70) as u16 },
         }
     }

@@ -10,4 +10,4 @@ returns-2 : tie.Need-returns-2
 returns-2 c = simp (ne-eqb _ _ (c .if1 .left))
 
 pub modes-at-fall-spec : {M : Type 1} → statement M
-modes-at-fall-spec = tie.close (tie.spec (λ c. search needs) returns returns-2)
+modes-at-fall-spec = tie.close (tie.spec (λ c. search needs) (λ c. search needs) (λ c. search needs) returns returns-2)

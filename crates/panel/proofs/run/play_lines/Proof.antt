@@ -8,6 +8,7 @@ use borrow.Author.Needs.{needs}
 use Rattle.parts.specs.declared.format.Format.{Format}
 use Rattle.rules.specs.State.{fresh}
 use Rattle.rules.specs.Card.{Card}
+use Rattle.rules.proofs.Laws.{fresh-frame}
 use Rattle.gdp.specs.Flat.{flat}
 use Rattle.gdp.proofs.Laws.{back}
 use Rattle.panel.specs.Panel.{card}
@@ -29,7 +30,7 @@ loop-holds c =
     let a = c .before .before .before .before .before .args in (
       going-none (a .input .now) (a .out .now) (a .start) (cardAt (c .fresh .result) (a .pic .now) (a .table .now)),
       refl,
-      rw (c .fresh .ensures) (ap flat (sym (back (fresh Format.Ef9366)))),
+      rw (c .fresh .ensures) (ap flat (sym (back (fresh Format.Ef9366) (fresh-frame Format.Ef9366)))),
     )
 
 play-record-requires : tie.Need-play-record-requires Inv-loop μ-loop

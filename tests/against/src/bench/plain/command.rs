@@ -21,7 +21,7 @@ impl Plain {
         0
     }
 
-    /// The picture waits for its frame; the registers do not.
+    /// The picture waits for its frames; the registers do not.
     fn clear(&mut self, code: u8) {
         match code {
             0x06 => self.place = ORIGIN,
@@ -32,7 +32,7 @@ impl Plain {
             }
             _ => {}
         }
-        self.running = Running::Clear { fill: code == 0x0C, open: false };
+        self.running = Running::Clear { fill: code == 0x0C, open: false, frames_left: self.window.frames() };
     }
 
     fn at_once(&mut self, code: u8) {

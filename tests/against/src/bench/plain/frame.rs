@@ -31,11 +31,17 @@ impl Plain {
 
     fn frame_ends(&mut self, picture: &mut [u8]) {
         self.rises(VB_RISE);
-        if let Running::Clear { fill, open: true } = self.running {
-            let lit = fill && self.ctrl1 & PEN != 0;
-            picture.fill(if lit { 0xFF } else { 0 });
-            self.running = Running::Idle;
-            self.rises(READY);
+        match self.running {
+            Running::Clear { fill, open: true, frames_left: 1 } => {
+                let lit = fill && self.ctrl1 & PEN != 0;
+                picture.fill(if lit { 0xFF } else { 0 });
+                self.running = Running::Idle;
+                self.rises(READY);
+            }
+            Running::Clear { fill, open: true, frames_left } => {
+                self.running = Running::Clear { fill, open: false, frames_left: frames_left - 1 };
+            }
+            _ => {}
         }
         if self.light_pen == LightPen::Open {
             self.light_pen_ends();

@@ -36,6 +36,15 @@ impl Window {
         usize::from(self.width / 8) * usize::from(self.height)
     }
 
+    /// A frame passes over 256 lines, so a clear of 512 takes two.
+    pub fn frames(&self) -> u8 {
+        if self.height > 256 {
+            2
+        } else {
+            1
+        }
+    }
+
     pub fn has(&self, place: Place) -> bool {
         place.x < self.width && place.y < self.height
     }

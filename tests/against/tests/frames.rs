@@ -1,0 +1,128 @@
+//! Clears carried from their command to their end, each card by itself: with FMAT high the second frame that a VB fall
+//! after the command begins ends one, in the other formats the first. Until then the picture stays and ready is low.
+
+use against::card::Card;
+use against::draw::arguments::bytes;
+use against::draw::states::FORMATS;
+use against::flat::{Flat, FlatAnswer};
+use against::lent::Part;
+use against::library::Library;
+use against::model::Model;
+use against::random::Random;
+
+/// By the format's number.
+const FRAMES: [usize; 3] = [1, 2, 1];
+const CLEARS: [u8; 4] = [0x04, 0x06, 0x07, 0x0C];
+/// CTRL1: the pen, and the mask of the ready flag.
+const PEN: u8 = 1 << 1;
+const READY_MASK: u8 = 1 << 6;
+/// STATUS.
+const READY: u16 = 1 << 2;
+const READY_FLAG: u16 = 1 << 6;
+const BUSY: u8 = 6;
+
+struct Panel<'c, C: Card> {
+    card: &'c C,
+    state: Flat,
+    picture: Vec<u8>,
+}
+
+impl<C: Card> Panel<'_, C> {
+    fn accepted(&mut self, answer: FlatAnswer) -> u16 {
+        assert_eq!(answer.number, 0);
+        self.state = answer.state;
+        answer.value
+    }
+
+    fn write(&mut self, address: u8, value: u8) {
+        let answer = self.card.write(self.state, address, value);
+        self.accepted(answer);
+    }
+
+    fn set_vb(&mut self, level: bool) {
+        let length = self.picture.len();
+        let picture = Part { whole: &mut self.picture, start: 0, length };
+        let answer = self.card.set_vb(self.state, u8::from(level), picture);
+        self.accepted(answer);
+    }
+
+    fn grant(&mut self, n: u16) -> u16 {
+        let length = self.picture.len();
+        let picture = Part { whole: &mut self.picture, start: 0, length };
+        let table = Part { whole: &mut [0xFF; 480], start: 0, length: 480 };
+        let answer = self.card.grant(self.state, n, picture, table);
+        self.accepted(answer)
+    }
+
+    /// STATUS, its flags left as they are.
+    fn status(&self) -> u16 {
+        self.card.read(self.state, 0).value
+    }
+
+    /// What a host may do while it waits; nothing of it counts as a frame.
+    fn wait(&mut self, random: &mut Random) {
+        match random.below(4) {
+            0 => assert_eq!(self.grant(random.word()), 0),
+            1 => assert_eq!(self.card.write(self.state, random.pick(&[0, 1, 9]), 0x04).number, BUSY),
+            2 => {
+                let answer = self.card.lpck(self.state, random.among(0, 63), random.among(0, 255));
+                self.accepted(answer);
+            }
+            _ => {
+                let answer = self.card.read(self.state, random.among(1, 3) as u8);
+                self.accepted(answer);
+            }
+        }
+    }
+}
+
+/// Levels of VB at random until the clear is over.
+fn carried(card: &impl Card, random: &mut Random, format: usize, code: u8) {
+    let state = card.fresh(format as u8).state;
+    let mut panel = Panel { card, state, picture: vec![0; bytes(FORMATS[format])] };
+    random.fill(&mut panel.picture);
+    panel.write(1, random.byte() & PEN | READY_MASK);
+    let mut vb = random.flag();
+    panel.set_vb(vb);
+    panel.write(0, code);
+    let (before, lit) = (panel.picture.clone(), code == 0x0C && panel.state.ctrl1 & PEN != 0);
+    let mut falls = 0;
+    loop {
+        assert!(panel.picture == before, "{code:02X} on format {format} after {falls} falls");
+        assert_eq!(panel.status() & (READY | READY_FLAG), 0, "{code:02X} on format {format}");
+        panel.wait(random);
+        let level = random.flag();
+        panel.set_vb(level);
+        let rises = level && !vb;
+        falls += usize::from(!level && vb);
+        vb = level;
+        if rises && falls == FRAMES[format] {
+            break;
+        }
+    }
+    let filled = if lit { 0xFF } else { 0x00 };
+    assert!(panel.picture.iter().all(|byte| *byte == filled), "{code:02X} on format {format}");
+    // 07 has cleared the mask.
+    let flag = if code == 0x07 { 0 } else { READY_FLAG };
+    assert_eq!(panel.status() & (READY | READY_FLAG), READY | flag, "{code:02X} on format {format}");
+    assert_eq!(usize::from(panel.state.modes), format, "nothing runs, and nothing is left over");
+}
+
+fn every_clear(card: &impl Card) {
+    let mut random = Random::new(512);
+    for _ in 0..50 {
+        for format in 0..FORMATS.len() {
+            CLEARS.iter().for_each(|code| carried(card, &mut random, format, *code));
+        }
+    }
+}
+
+#[test]
+fn by_the_library() {
+    every_clear(&Library::reach());
+}
+
+#[test]
+fn by_the_model() {
+    every_clear(&Model);
+}
