@@ -9,7 +9,7 @@ use lib.ListN.{length, getD, replicate}
 use Rattle.basis.specs.Reading.{Reading, each, joined, told}
 use Rattle.parts.specs.declared.format.Format.{Format}
 use Rattle.parts.specs.declared.format.Format.the-variants.{Ef9366, FmatHigh, FmatLow}
-use Rattle.rules.specs.Sequence.{inLast}
+use Rattle.rules.specs.Sequence.{framesOver, inLast}
 use Rattle.rules.specs.State.{State, fresh}
 use Rattle.rules.specs.Status.{status}
 use Rattle.rules.specs.Registers.{afterRead}
@@ -116,15 +116,20 @@ twoFrames =
       used (stated (clearing 1 2 1)) 9 ∷ length (dots (stated (clearing 1 2 1)) (tables (replicate 480 255)) 9) ∷ shown (after (stated (clearing 1 2 1)) 9),
       0 ∷ 0 ∷ clearing 1 2 1,
     )
-    -- 1: VB high inside the first or the second frame, and nothing else; by format, frames over and VB
+    -- 1: VB high inside a frame, whatever is said to be over, and nothing else; by format, frames over and VB
     ∷ (
-      joined (λ f. joined (λ at. each (λ vb. told (bad (stated (clearing f at vb)))) 0 2) 0 4) 0 3,
-      joined (λ f. 0 ∷ 0 ∷ 0 ∷ 1 ∷ 0 ∷ 0 ∷ 0 ∷ 1 ∷ []) 0 3,
+      joined (λ f. joined (λ at. each (λ vb. told (bad (stated (clearing f at vb)))) 0 2) 0 8) 0 3,
+      joined (λ i. 0 ∷ 0 ∷ 0 ∷ 1 ∷ []) 0 12,
     )
     -- which rise ends a clear: FMAT high's with a frame over, and with more than there are; the others' whatever is said of it
     ∷ (
       joined (λ f. each (λ at. told (endsClear (stated (clearing f at 0)))) 0 8) 0 3,
       (0 ∷ 1 ∷ 0 ∷ 1 ∷ 0 ∷ 1 ∷ 0 ∷ 1 ∷ []) ++ ((0 ∷ 0 ∷ 0 ∷ 1 ∷ 0 ∷ 1 ∷ 0 ∷ 1 ∷ []) ++ (0 ∷ 1 ∷ 0 ∷ 1 ∷ 0 ∷ 1 ∷ 0 ∷ 1 ∷ [])),
+    )
+    -- what is over: nothing where no clear runs
+    ∷ (
+      framesOver (stated rich .work) ∷ framesOver (stated (but 10 1 (but 11 0x41 rich)) .work) ∷ each (λ at. framesOver (stated (clearing 1 at 0) .work)) 0 4,
+      0 ∷ 0 ∷ 0 ∷ 0 ∷ 1 ∷ 1 ∷ [],
     )
     -- of any number of frames the last: after 0 to 3 of 1 to 4
     ∷ (
