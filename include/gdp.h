@@ -139,7 +139,9 @@ gdp_answer gdp_read(gdp_state state, uint8_t address);
 gdp_answer gdp_grant(gdp_state state, uint16_t cycles, uint8_t *picture, size_t picture_length, const uint8_t *table,
                      size_t table_length);
 
-/* Sets VB: 0 is low, any other byte is high. The rise that ends a clear's frame changes the picture. */
+/* Sets VB: 0 is low, any other byte is high. A frame goes from a fall to the next rise. The rise that ends a clear
+   changes the picture, all of it at once, and ready rises: with FMAT high that of the second frame begun by a fall
+   after the command, else that of the first. Until then the picture is as it was. */
 gdp_answer gdp_set_vb(gdp_state state, uint8_t level, uint8_t *picture, size_t picture_length);
 
 /* Reports an LPCK edge at segment h and line v. */
