@@ -7,9 +7,10 @@ use lib.ListN.{replicate}
 use Rattle.basis.specs.Reading.{Reading, each, joined, told}
 use Rattle.parts.specs.declared.format.Format.the-variants.{FmatLow}
 use Rattle.rules.specs.Sequence.{Clear, Waiting}
-use Rattle.rules.specs.Calls.{Answer as Verdict, Located}
+use Rattle.rules.specs.Calls.{Answer as Verdict, Located, readOut}
 use Rattle.rules.specs.Tables.Rows.{framesNamed}
 use Rattle.gdp.specs.declared.state.Gdp.{Gdp}
+use Rattle.gdp.specs.Flat.{stateOf}
 use Rattle.gdp.specs.Calls.{levelOf, flawed, refusal, answerOf, outputsOf, allOnes, freshAnswer}
 use Rattle.gdp.specs.Tables.Rows.{over, times, bytes, byteRow, answerRow, outputsRow}
 use Rattle.gdp.specs.Tables.Layout.{own, ownBytes, namedByModes, namedBySignals}
@@ -78,12 +79,22 @@ goes = 0xABC ∷ 0x9DE ∷ 0 ∷ 0x71 ∷ 0x0B ∷ 0x23 ∷ 0x45 ∷ 0x67 ∷ 0x
 unfoldable pub place : ℕ → Located
 place k = record { number = k; address = record { low = 41; high = 38; msl = 12 } }
 
+-- `modes` in what a read of CTRL1 hands back
+unfoldable pub modesAfter : ℕ → ℕ
+modesAfter m = (answerOf (ownBytes m 0) (readOut (stateOf (ownBytes m 0)) 0x1)) .state .modes
+
 unfoldable pub answerReadings : List Reading
 answerReadings =
     -- accepted: the bytes of the state; refused: the bytes as they came, left-overs too
     (
       joined (λ (k : ℕ). answerRow (answerOf (ownBytes 0x80 0x81) (verdict k))) 0 256,
       (0 ∷ 513 ∷ goes) ++ joined (λ (k : ℕ). k ∷ 513 ∷ came 0x80 0x81) 1 255,
+    )
+    -- bit 7 of `modes` by an accepted read, where nothing runs, while a clear waits and while it is in a frame: it is handed back
+    -- of a clear with FMAT high alone
+    ∷ (
+      over (0x80 ∷ 0x90 ∷ 0xD0 ∷ []) (λ (m : ℕ). each (λ (f : ℕ). modesAfter (m + f)) 0 3),
+      (0x00 ∷ 0x01 ∷ 0x02 ∷ []) ++ ((0x10 ∷ 0x91 ∷ 0x12 ∷ []) ++ (0x50 ∷ 0xD1 ∷ 0x52 ∷ [])),
     )
     -- each bit of a value, and the cycles of the largest character
     ∷ (
