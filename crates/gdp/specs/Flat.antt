@@ -105,7 +105,7 @@ named b = namedModes (b .modes) && namedSignals (b .signals)
 abbrev pub formatOf : Gdp → Format
 formatOf b = formatAt (formatIn (b .modes))
 
--- the frames of a clear; bit 7 is not looked at where the format takes one
+-- the frames of a clear; bit 7 is not looked at where the format takes one frame
 abbrev pub overIn : ℕ → ℕ
 overIn m = min (m / 128) (frames (formatAt (formatIn m)) - 1)
 

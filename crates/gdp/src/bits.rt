@@ -1,6 +1,6 @@
 // The bits of `modes` and `signals`, named, read and set only here.
 // `modes`: bits 0 to 2 the format; 3 and 4 what runs (nothing, a command that steps, a clear); 5 the clear is 0C; 6 a frame of it
-// is open; 7 its first frame is over, which is not in use where the format takes one.
+// is open; 7 its first frame is over, which is not in use where the format takes one frame.
 // `signals`: bit 1 VB and 4 to 6 the flags, where STATUS has them; 2 and 3 the light pen's sequence (none, waiting, in its frame);
 // 0 and 7 not in use.
 ghost use mathlib.Core.Path.{_≡_};

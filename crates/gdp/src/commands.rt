@@ -7,7 +7,7 @@ use parts::command::is_prompt;
 use picture::dot::with_bit;
 
 impl Gdp {
-    // A command without write cycles: a clear waits for its frame, in the others ready falls and rises at once.
+    // A command without write cycles: a clear waits for its first frame, in the others ready falls and rises at once.
     fn prompted(mut self, code: u8) -> Gdp
         ensures { λ r. ⌜ Makes (λ s. prompt (withRegs (commanded (s .regs) code) s) code) self r ⌝ }
     {

@@ -1,5 +1,6 @@
 -- When a clear ends, for any calls that come after it is accepted: with the VB rise that ends the last frame of its format, whatever
--- their number, and no sooner. Reads, grants, pen edges and refused writes in between change nothing of it.
+-- their number, and no sooner. Reads, grants, pen edges and refused writes in between change nothing of it; only what is written
+-- after that rise may begin something else.
 -- Assumes nothing.
 use mathlib.Core.Path.{_≡_, refl, sym, ap, _∙_, subst}
 use mathlib.Core.Logic.{_⊎_, inl, inr, ⊎-elim}
@@ -10,7 +11,7 @@ use native.Mathlib.Omega.{arith}
 use lib.Dec.{eqb, leb}
 use lib.ListN.{length}
 use borrow.Author.Tests.{eqb-true, eq-eqb, leb-true, leb-false, le-leb, lt-leb}
-use Rattle.basis.proofs.Cases.{split, or-cases}
+use Rattle.basis.proofs.Cases.{split, or-cases, and-parts}
 use Rattle.picture.specs.Bit.{digit, bitAt}
 use Rattle.picture.specs.Dot.{whole}
 use Rattle.parts.specs.Format.{bytes, frames}
@@ -25,7 +26,7 @@ use Rattle.rules.specs.Blanking.{fallen, endsClear, clearEnds, risen, af
 use Rattle.rules.specs.Refusals.{bad, wrongPicture, writeNumber, vbNumber}
 use Rattle.rules.specs.Calls.{Memory, memory, answer, outcome, written, blanked}
 use Rattle.rules.specs.Card.{Card, Event, W, R, T, VB, LP, outcomeOf, next, played}
-use Rattle.rules.specs.Frames.{levelsIn, risesIn, framesAfter, unwritten, Come}
+use Rattle.rules.specs.Frames.{levelsIn, risesIn, framesAfter, risesOf, unwritten, Come}
 use Rattle.rules.proofs.Good.{begun-good, read-good, grant-good, vb-good, edge-good}
 use Rattle.rules.proofs.Split.{clear-still}
 use Rattle.rules.proofs.Alike.{Alike, read-alike, edge-alike, grant-alike, grant-memory, wrote, pen-alike}
@@ -202,17 +203,12 @@ module _ (c : Card) {fill inside : Bool} {over : ℕ} (r : Runs c fill inside ov
   unfolding next outcomeOf
   edge-turns x y = stays (next c (LP x y)) (edge-alike (c .state) x y) refl (edge-good (c .state) x y (r .good))
 
--- no register is written once the clear is over
-abbrev Quiet : Card → ℕ → List Event → Type 0
-Quiet c n es = leb (frames (c .state .format)) n ≡ true → unwritten es ≡ true
-
 -- what comes of the clear on a card that it goes on to, its frames counted from there
-turned : {c d e : Card} (es : List Event) {n m : ℕ} → Goes c d → m ≡ n → (Quiet d m es → Come d e m) → Quiet c n es → Come c e n
-turned {c} {e = e} es g k h q = subst (Come c e) k (before g (h (λ t. q (rw (g .format, k) at t))))
+turned : {c d e : Card} {n m : ℕ} → Goes c d → m ≡ n → Come d e m → Come c e n
+turned {c} {e = e} g k h = subst (Come c e) k (before g h)
 
-same-card : {c d : Card} (es : List Event) {n m : ℕ} → d ≡ c → m ≡ n → (Quiet c m es → Come c (played c es) m) → Quiet c n es
-    → Come c (played d es) n
-same-card {c} es {n} e k h q = subst (λ (d : Card). Come c (played d es) n) (sym e) (subst (Come c (played c es)) k (h (λ t. q (rw k at t))))
+same-card : {c d : Card} (es : List Event) {n m : ℕ} → d ≡ c → m ≡ n → Come c (played c es) m → Come c (played d es) n
+same-card {c} es {n} e k h = subst (λ (d : Card). Come c (played d es) n) (sym e) (subst (Come c (played c es)) k h)
 
 -- how a level counts: not, as the end of a frame that had begun before, as the end of one that counts
 no-rise : (o r k : ℕ) → o + (r - k) ≡ o + (0 + r - k)
@@ -229,67 +225,86 @@ none-over c {over = over} k r = lt-leb (frames (c .state .format)) (over + (0 - 
 
 -- the rise that ends the last frame: the picture is whole, and nothing that writes no register changes it
 ended : (es : List Event) (c : Card) {fill : Bool} {over n : ℕ} (r : Runs c fill true over) → c .state .vb ≡ false
-    → leb (frames (c .state .format)) (over + 1) ≡ true → leb (frames (c .state .format)) n ≡ true → unwritten es ≡ true
+    → leb (frames (c .state .format)) (over + 1) ≡ true → leb (frames (c .state .format)) n ≡ true → unwritten 0 true es ≡ true
     → Come c (played (next c (VB true)) es) n
 ended es c r v e m u =
     let last : endsClear (c .state) ≡ true = rw (r .work) e in
     let at = ends-to c r v last in
-    let on = idle-comes es (next c (VB true)) (at .0 .work) u in
+    let on = idle-comes es (next c (VB true)) true (at .0 .work) u in
     record {
       ready = ap ready (on .work) ∙ sym m;
       picture = ap (λ (x : Memory). x .picture) (on .memory) ∙ at .1 ∙ rw m refl;
       flag = λ x. rw m (at .0 .flag (on .flag x));
     }
 
+-- the rises that the clear still waits for
+abbrev awaited : Card → Bool → ℕ → Bool → ℕ
+awaited c inside over vb = frames (c .state .format) - over + digit (not vb && not inside)
+
+-- on a card that it goes on to, by a call that is no VB level
+still-awaited : {c d : Card} (inside : Bool) (over : ℕ) (vb : Bool) {m : ℕ} → Goes c d → m ≡ awaited c inside over vb → m ≡ awaited d inside over vb
+still-awaited inside over vb g k = rw (g .format) k
+
 comes : (es : List Event) (c : Card) {fill : Bool} (inside : Bool) {over : ℕ} (vb : Bool) → Runs c fill inside over → c .state .vb ≡ vb
-    → Quiet c (counted inside over vb (levelsIn es)) es → Come c (played c es) (counted inside over vb (levelsIn es))
+    → (m : ℕ) → m ≡ awaited c inside over vb → unwritten m vb es ≡ true → Come c (played c es) (counted inside over vb (levelsIn es))
 unfolding played unwritten levelsIn risesIn
-comes [] c inside vb r v q =
+comes [] c inside vb r v m k u =
     let no = none-over c (digit (not vb && not inside)) r in
     record { ready = ap ready (r .work) ∙ sym no; picture = rw no refl; flag = λ x. rw x refl }
-comes (W a v ∷ es) c inside vb r e q =
-    same-card es (wrote c a v (ap ready (r .work))) refl (comes es c inside vb r e) (λ t. absurd (false≢true (q t)))
-comes (R a ∷ es) c inside vb r v q =
+comes (W a v ∷ es) c inside vb r e m k u =
+    same-card es (wrote c a v (ap ready (r .work))) refl (comes es c inside vb r e m k (and-parts (not (eqb m 0)) _ u .1))
+comes (R a ∷ es) c inside {over} vb r v m k u =
     let t = read-turns c r v a in
-    turned es (t .goes) refl (comes es (next c (R a)) inside vb (t .runs) (t .level)) q
-comes (T n ∷ es) c inside vb r v q =
+    turned (t .goes) refl (comes es (next c (R a)) inside vb (t .runs) (t .level) m (still-awaited inside over vb (t .goes) k) u)
+comes (T n ∷ es) c inside {over} vb r v m k u =
     let t = grant-turns c r v n in
-    turned es (t .goes) refl (comes es (next c (T n)) inside vb (t .runs) (t .level)) q
-comes (LP x y ∷ es) c inside vb r v q =
+    turned (t .goes) refl (comes es (next c (T n)) inside vb (t .runs) (t .level) m (still-awaited inside over vb (t .goes) k) u)
+comes (LP x y ∷ es) c inside {over} vb r v m k u =
     let t = edge-turns c r v x y in
-    turned es (t .goes) refl (comes es (next c (LP x y)) inside vb (t .runs) (t .level)) q
-comes (VB true ∷ es) c inside true r v q = same-card es (present c true r v) (no-rise _ _ 0) (comes es c inside true r v) q
-comes (VB false ∷ es) c inside true r v q =
+    turned (t .goes) refl (comes es (next c (LP x y)) inside vb (t .runs) (t .level) m (still-awaited inside over vb (t .goes) k) u)
+comes (VB true ∷ es) c inside true r v m k u =
+    same-card es (present c true r v) (no-rise _ _ 0) (comes es c inside true r v (m - 0) (omega (arith, k)) u)
+comes (VB false ∷ es) c inside true r v m k u =
     let t = falls-to c r v in
-    turned es (t .goes) (no-rise _ _ 0) (comes es (next c (VB false)) true false (t .runs) (t .level)) q
-comes (VB false ∷ es) c inside false r v q = same-card es (present c false r v) (no-rise _ _ _) (comes es c inside false r v) q
-comes (VB true ∷ es) c false false r v q =
+    turned (t .goes) (no-rise _ _ 0)
+    (comes es (next c (VB false)) true false (t .runs) (t .level) (m - 0) (omega (arith, k, ap frames (t .goes .format))) u)
+comes (VB false ∷ es) c inside false r v m k u =
+    same-card es (present c false r v) (no-rise _ _ _) (comes es c inside false r v (m - 0) (omega (arith, k)) u)
+comes (VB true ∷ es) c false false r v m k u =
     let t = rises-to c r v (rw (r .work) refl) (r .left) in
-    turned es (t .goes) (early-rise _ _) (comes es (next c (VB true)) false true (t .runs) (t .level)) q
-comes (VB true ∷ es) c true {over} false r v q =
+    turned (t .goes) (early-rise _ _)
+    (comes es (next c (VB true)) false true (t .runs) (t .level) (m - 1) (omega (arith, k, ap frames (t .goes .format))) u)
+comes (VB true ∷ es) c true {over} false r v m k u =
     ⊎-elim
-    (λ e. let m = le-leb (frames (c .state .format)) _ (past e) in ended es c r v e m (q m))
+    (λ e. ended es c r v e (le-leb (frames (c .state .format)) _ (past e)) (subst (λ (n : ℕ). unwritten n true es ≡ true) (last e) u))
     (λ e. let t = rises-to c r v (rw (r .work) e) (leb-false _ _ e) in
-    turned es (t .goes) (frame-over _ _) (comes es (next c (VB true)) false true (t .runs) (t .level)) q)
+    turned (t .goes) (frame-over _ _)
+    (comes es (next c (VB true)) false true (t .runs) (t .level) (m - 1) (omega (arith, k, ap frames (t .goes .format), leb-false (frames (c .state .format)) (over + 1) e)) u))
     (split (leb (frames (c .state .format)) (over + 1)))
   where
     past : leb (frames (c .state .format)) (over + 1) ≡ true → frames (c .state .format) ≤ counted true over false (true ∷ levelsIn es)
     past e = omega (arith, leb-true (frames (c .state .format)) (over + 1) e)
 
--- from acceptance on, whatever is called: the frames are those that VB's levels show
+    last : leb (frames (c .state .format)) (over + 1) ≡ true → m - 1 ≡ 0
+    last e = omega (arith, k, leb-true (frames (c .state .format)) (over + 1) e)
+
+-- from acceptance on, whatever is called, but for what is written after the end: the frames are those that VB's levels show
 pub clear-comes : (c : Card) (fill : Bool) → bad (c .state) ≡ false → length (c .memory .picture) ≡ bytes (c .state .format)
-    → c .state .work ≡ Clear fill noFrames → (es : List Event)
-    → (leb (frames (c .state .format)) (framesAfter (c .state .vb) (levelsIn es)) ≡ true → unwritten es ≡ true)
+    → c .state .work ≡ Clear fill noFrames → (es : List Event) → unwritten (risesOf (c .state)) (c .state .vb) es ≡ true
     → Come c (played c es) (framesAfter (c .state .vb) (levelsIn es))
 unfolding framesAfter
-clear-comes c fill g l w es q =
+clear-comes c fill g l w es u =
     let r : Runs c fill false 0 = record { good = g; fits = l; work = w; left = frames-some (c .state .format) } in
-    let k = begins (c .state .vb) (risesIn (c .state .vb) (levelsIn es)) in
-    subst (Come c (played c es)) k (comes es c false (c .state .vb) r refl (λ t. q (rw k at t)))
+    subst (Come c (played c es)) (begins (c .state .vb) (risesIn (c .state .vb) (levelsIn es)))
+    (comes es c false (c .state .vb) r refl (risesOf (c .state)) (awaits (c .state .vb) (frames (c .state .format))) u)
   where
     begins : (vb : Bool) (n : ℕ) → 0 + (n - digit (not vb && true)) ≡ n - digit (not vb)
     begins true n = omega arith
     begins false n = omega arith
+
+    awaits : (vb : Bool) (k : ℕ) → k + digit (not vb) ≡ k - 0 + digit (not vb && true)
+    awaits true k = omega arith
+    awaits false k = omega arith
 
 -- 04, 06, 07 and 0C once accepted: no frame is open or over
 prompts : (c : ℕ) → clearing c ≡ true → prompting (kind c) ≡ true
@@ -323,12 +338,11 @@ begun-clear s code e = rw (prompts code e, e) (refl, refl, refl)
 
 -- so from acceptance on, for any card and any of the four
 pub clears-come : (c : Card) (code : ℕ) → clearing code ≡ true → writeNumber (c .state) 0x0 code ≡ 0
-    → length (c .memory .picture) ≡ bytes (c .state .format) → (es : List Event)
-    → (leb (frames (c .state .format)) (framesAfter (c .state .vb) (levelsIn es)) ≡ true → unwritten es ≡ true)
+    → length (c .memory .picture) ≡ bytes (c .state .format) → (es : List Event) → unwritten (risesOf (c .state)) (c .state .vb) es ≡ true
     → Come (next c (W 0x0 code)) (played c (W 0x0 code ∷ es)) (framesAfter (c .state .vb) (levelsIn es))
 unfolding played begun
-clears-come c code e z l es q =
+clears-come c code e z l es u =
     let b = begun-clear (c .state) code e in
     let d : Card = record { state = begun (c .state) code; memory = c .memory; tables = c .tables } in
-    let h = clear-comes d (eqb code 0x0C) (begun-good (c .state) code z) (rw (b .1) l) (b .0) es (λ t. q (rw (b .1, b .2) at t)) in
+    let h = clear-comes d (eqb code 0x0C) (begun-good (c .state) code z) (rw (b .1) l) (b .0) es (rw (b .1, b .2) u) in
     rw (accepted-next c code z) (rw (b .2) at h)

@@ -1,11 +1,13 @@
 -- Where nothing runs, calls that write no register leave it so, and every dot.
 -- Assumes nothing.
 use mathlib.Core.Path.{_≡_, refl, sym, ap, _∙_, subst}
-use mathlib.Core.Bool.{Bool, true, false, false≢true}
+use mathlib.Core.Bool.{Bool, true, false, _&&_, not, false≢true}
 use mathlib.Core.List.{List, [], _∷_}
-use Prim.Native.Nat.{ℕ}
+use Prim.Native.Nat.{ℕ, _-_}
+use native.Mathlib.Omega.{arith}
 use lib.Dec.{eqb}
 use Rattle.basis.proofs.Cases.{cond-case}
+use Rattle.picture.specs.Bit.{digit}
 use Rattle.parts.specs.declared.format.Format.{Format}
 use Rattle.parts.specs.Format.{frames}
 use Rattle.rules.specs.Sequence.{Work, Idle, LightPen, workFalls, workRises, inLast}
@@ -70,18 +72,21 @@ idle-vb c level i =
 rests-on : {c d e : Card} → Rests c d → Rests d e → Rests c e
 rests-on r q = record { work = q .work; memory = q .memory ∙ r .memory; flag = λ x. r .flag (q .flag x) }
 
-pub idle-comes : (es : List Event) (c : Card) → c .state .work ≡ Idle → unwritten es ≡ true → Rests c (played c es)
+pub idle-comes : (es : List Event) (c : Card) (vb : Bool) → c .state .work ≡ Idle → unwritten 0 vb es ≡ true → Rests c (played c es)
 unfolding played unwritten next outcomeOf
-idle-comes [] c i u = rests i same refl
-idle-comes (W a v ∷ es) c i u = absurd (false≢true u)
-idle-comes (R a ∷ es) c i u =
+idle-comes [] c vb i u = rests i same refl
+idle-comes (W a v ∷ es) c vb i u = absurd (false≢true u)
+idle-comes (R a ∷ es) c vb i u =
     let r = rests i (read-alike (c .state) a) refl in
-    rests-on r (idle-comes es (next c (R a)) (r .work) u)
-idle-comes (T n ∷ es) c i u =
+    rests-on r (idle-comes es (next c (R a)) vb (r .work) u)
+idle-comes (T n ∷ es) c vb i u =
     let still = idle-still (c .state) i in
     let r = rests i (grant-alike (c .state) n (c .memory) (c .tables) still) (grant-memory (c .state) n (c .memory) (c .tables) still) in
-    rests-on r (idle-comes es (next c (T n)) (r .work) u)
-idle-comes (VB level ∷ es) c i u = let r = idle-vb c level i in rests-on r (idle-comes es (next c (VB level)) (r .work) u)
-idle-comes (LP h v ∷ es) c i u =
+    rests-on r (idle-comes es (next c (T n)) vb (r .work) u)
+idle-comes (VB level ∷ es) c vb i u =
+    let r = idle-vb c level i in
+    let none : 0 - digit (not vb && level) ≡ 0 = omega arith in
+    rests-on r (idle-comes es (next c (VB level)) level (r .work) (subst (λ (n : ℕ). unwritten n level es ≡ true) none u))
+idle-comes (LP h v ∷ es) c vb i u =
     let r = rests i (edge-alike (c .state) h v) refl in
-    rests-on r (idle-comes es (next c (LP h v)) (r .work) u)
+    rests-on r (idle-comes es (next c (LP h v)) vb (r .work) u)

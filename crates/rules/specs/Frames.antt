@@ -2,13 +2,14 @@
 -- Assumes nothing.
 use mathlib.Core.Path.{_≡_}
 use Prim.Native.Nat.{ℕ, _+_, _-_}
-use mathlib.Core.Bool.{Bool, true, false, cond, _&&_, _||_, not}
+use mathlib.Core.Bool.{Bool, true, cond, _&&_, _||_, not}
 use mathlib.Core.List.{List, [], _∷_}
-use lib.Dec.{leb}
+use lib.Dec.{eqb, leb}
 use Rattle.picture.specs.Bit.{digit, bitAt}
 use Rattle.picture.specs.Dot.{whole}
 use Rattle.parts.specs.Format.{frames}
 use Rattle.rules.specs.Sequence.{ready as isReady, clearLights}
+use Rattle.rules.specs.State.{State}
 use Rattle.rules.specs.Cycles.{lights}
 use Rattle.rules.specs.Card.{Card, Event, W, R, T, VB, LP}
 
@@ -31,17 +32,21 @@ risesIn vb (level ∷ levels) = digit (not vb && level) + risesIn level levels
 unfoldable pub framesAfter : Bool → List Bool → ℕ
 framesAfter vb levels = risesIn vb levels - digit (not vb)
 
--- no register is written
-unfoldable pub unwritten : List Event → Bool
-unwritten [] = true
-unwritten (W a v ∷ es) = false
-unwritten (R a ∷ es) = unwritten es
-unwritten (T n ∷ es) = unwritten es
-unwritten (VB level ∷ es) = unwritten es
-unwritten (LP h v ∷ es) = unwritten es
+-- the rises of VB up to the one that ends a clear accepted in this state
+abbrev pub risesOf : State → ℕ
+risesOf s = frames (s .format) + digit (not (s .vb))
+
+-- no register is written once VB, from the level that it has, has risen n times
+unfoldable pub unwritten : ℕ → Bool → List Event → Bool
+unwritten n vb [] = true
+unwritten n vb (W a v ∷ es) = not (eqb n 0) && unwritten n vb es
+unwritten n vb (R a ∷ es) = unwritten n vb es
+unwritten n vb (T k ∷ es) = unwritten n vb es
+unwritten n vb (VB level ∷ es) = unwritten (n - digit (not vb && level)) level es
+unwritten n vb (LP h v ∷ es) = unwritten n vb es
 
 -- card c, on which a clear runs, has come to card d, and n frames of the clear are over: with the last frame of the format, and not
--- before, ready is high, the picture is whole, and ready's flag may have risen, where its mask lets it
+-- before, ready is high and every dot as the clear leaves it, and ready's flag may have risen, where its mask lets it
 pub record Come (c d : Card) (n : ℕ) : Type 0 where
   pub ready : isReady (d .state .work) ≡ leb (frames (c .state .format)) n
   pub picture : d .memory .picture

@@ -9,8 +9,8 @@ pub record Frames : Type 0 where
   pub inside : Bool
   pub over : ℕ
 
--- what runs: nothing; a command of some code that has used some of its write cycles; a clear by its frames, which as 0C fills:
--- it sets every dot as CTRL1 bit 1 says, where the others darken
+-- what runs: nothing; a command of some code that has used some of its write cycles; a clear, with its frames; as 0C it fills,
+-- which sets every dot as CTRL1 bit 1 says, where the others darken
 pub data Work : Type 0 where
   Idle : Work
   Steps : (code done : ℕ) → Work

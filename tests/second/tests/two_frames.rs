@@ -138,7 +138,7 @@ fn statuses(code: u8, ctrl1: u8) -> [u16; 6] {
 }
 
 #[test]
-fn ready_rises_at_the_second_rise() {
+fn ready_rises_at_the_end_of_the_second_frame() {
     for (code, _) in CLEARS {
         assert_eq!(statuses(code, 0x03), [0x01, 0x03, 0x01, 0x03, 0x01, 0x07], "{code:02X}");
     }
@@ -146,7 +146,7 @@ fn ready_rises_at_the_second_rise() {
 
 // reading 31: after 07 CTRL1 is 0, so no flag is set
 #[test]
-fn ready_flag_at_the_second_rise_alone() {
+fn ready_flag_at_the_end_of_the_second_frame_alone() {
     for (code, _) in CLEARS {
         let ended = if code == 0x07 { 0x07 } else { 0xC7 };
         assert_eq!(statuses(code, 0x42), [0x01, 0x03, 0x01, 0x03, 0x01, ended], "{code:02X}");
@@ -172,7 +172,7 @@ fn with_another_ctrl1(code: u8, before: u8, after: u8) -> Card {
 
 // reading 48: 0C goes by CTRL1 bit 1 as it is at the end
 #[test]
-fn bit_1_at_the_second_rise() {
+fn bit_1_at_the_end_of_the_second_frame() {
     for (before, after, byte) in [(0x02, 0x00, 0x00), (0x00, 0x02, 0xFF), (0x03, 0x01, 0x00)] {
         assert!(whole(&with_another_ctrl1(0x0C, before, after), byte), "{before:02X} {after:02X}");
         assert!(whole(&with_another_ctrl1(0x04, before, after), 0x00), "{before:02X} {after:02X}");
@@ -181,7 +181,7 @@ fn bit_1_at_the_second_rise() {
 
 // reading 32: the mask is looked at when ready rises
 #[test]
-fn ready_mask_at_the_second_rise() {
+fn ready_mask_at_the_end_of_the_second_frame() {
     for (code, _) in CLEARS {
         assert_eq!(with_another_ctrl1(code, 0x00, 0x40).status(), 0xC7, "{code:02X}");
         assert_eq!(with_another_ctrl1(code, 0x40, 0x00).status(), 0x07, "{code:02X}");

@@ -14,7 +14,7 @@ ctrl1 rest b0 b1 b6 = rest + b0 + 2 * b1 + 64 * b6
 unfoldable pub at : ℕ → ℕ → ℕ → ℕ → List ℕ
 at c1 pen vb flag = but 1 c1 (but 15 pen (but 16 vb (but 19 flag rich)))
 
--- a clear waits for its frame
+-- a clear waits for its first frame
 unfoldable pub waits : ℕ → List ℕ → List ℕ
 waits fill r = but 10 2 (but 13 fill r)
 

@@ -108,7 +108,7 @@ clears =
       said card (W 0 4 ∷ W 5 1 ∷ W 0 0 ∷ W 0xC 0 ∷ W 4 0 ∷ R 5 ∷ T 9 ∷ R 0 ∷ frame (R 0 ∷ W 5 1 ∷ R 5 ∷ [])),
       1006 ∷ 1006 ∷ 1005 ∷ 1004 ∷ 0 ∷ 0 ∷ 0x01 ∷ 0x07 ∷ 1 ∷ [],
     )
-    -- 0C lights all with the pen, up or down, at the second rise and not before
+    -- 0C lights all with the pen, up or down, at the second rise and not before, with FMAT high at the third
     ∷ (drawn card (W 1 2 ∷ W 0 0x0C ∷ VB true ∷ VB false ∷ []), dark Ef9366)
     ∷ (drawn card (W 1 2 ∷ W 0 0x0C ∷ frame []), full Ef9366)
     ∷ (drawn (new FmatHigh) (W 1 2 ∷ W 0 0x0C ∷ frame (VB false ∷ VB true ∷ [])), full FmatHigh)

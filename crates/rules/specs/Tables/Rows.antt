@@ -1,6 +1,7 @@
 -- A state as a row of numbers, so that a reading shows all of it: 0 the format; 1 to 9 CTRL1, CTRL2, CSIZE, DELTAX, DELTAY, X, Y,
 -- XLP, YLP; 10 what runs (0 nothing, 1 a command with cycles, 2 a clear), 11 its code, 12 its progress, 13 whether it fills, 14
--- its frames, 1 where one is open and 2 for each that is over; 15 the pen's sequence (0 none, 1 waiting, 2 open); 16 VB; 17 to 19 the flags for pen end, VB and ready.
+-- its frames, 1 where one is open and 2 for each that is over; 15 the pen's sequence (0 none, 1 waiting, 2 open); 16 VB; 17 to 19 the
+-- flags for pen end, VB and ready.
 -- Assumes nothing.
 use Prim.Native.Nat.{ℕ, _+_, _*_, _/_, _%_}
 use mathlib.Core.Bool.{Bool, cond}

@@ -1,5 +1,5 @@
 -- The frames of a clear, call by call: 04, 06, 07 and 0C with FMAT high take two, the other formats one, the pen's sequence one.
--- The picture is two bytes, for neither `afterVb` nor `pictureVb` asks for its length; the last rows take the calls themselves.
+-- The picture is two bytes, for neither `afterVb` nor `pictureVb` asks for its length; the last row takes the calls themselves.
 -- Assumes nothing.
 use Prim.Native.Nat.{ℕ, _+_, _*_}
 use mathlib.Core.Bool.{Bool, true, false, cond}
@@ -19,11 +19,11 @@ use Rattle.rules.specs.Blanking.{endsClear, afterVb, pictureVb, afterEdg
 use Rattle.rules.specs.Refusals.{bad}
 use Rattle.rules.specs.Calls.{written}
 use Rattle.rules.specs.Card.{Card, Event, W, R, T, VB, LP}
-use Rattle.rules.specs.Frames.{levelsIn, risesIn, framesAfter, unwritten}
+use Rattle.rules.specs.Frames.{levelsIn, risesIn, framesAfter, risesOf, unwritten}
 use Rattle.rules.specs.Tables.Play.{said, new}
 use Rattle.rules.specs.Tables.Rows.{but, stated, shown, rich}
 
--- a fresh processor of a format after some accepted writes
+-- a fresh processor of a format after some accepted writes, the first of them last in the list
 unfoldable pub told-to : Format → List (ℕ × ℕ) → State
 told-to f [] = fresh f
 told-to f (w ∷ ws) = (written (told-to f ws) (w .0) (w .1)) .state
@@ -79,15 +79,15 @@ twoFrames =
       trace (low FmatHigh) (0 ∷ 1 ∷ 1 ∷ 0 ∷ 0 ∷ 1 ∷ 1 ∷ 0 ∷ 0 ∷ 1 ∷ []),
       kept (0x01 ∷ 0x03 ∷ 0x03 ∷ 0x01 ∷ 0x01 ∷ 0x03 ∷ 0x03 ∷ 0x01 ∷ 0x01 ∷ []) ++ darkened 0xC7,
     )
-    -- nor do reads, edges and grants, before a frame, inside one, between the two; STATUS clears ready's flag, which comes anew
+    -- nor do reads, edges and grants, before a frame, inside one, between the two; ready's flag of 05 goes by the read, and comes anew
     ∷ (
-      trace (low FmatHigh) (2 ∷ 4 ∷ 1 ∷ 3 ∷ 2 ∷ 0 ∷ 4 ∷ 3 ∷ 1 ∷ 2 ∷ 4 ∷ 3 ∷ 0 ∷ 2 ∷ 4 ∷ 1 ∷ []),
+      trace (told-to FmatHigh ((0x0, 0x04) ∷ (0x0, 0x05) ∷ (0x1, 0x40) ∷ [])) (2 ∷ 4 ∷ 1 ∷ 3 ∷ 2 ∷ 0 ∷ 4 ∷ 3 ∷ 1 ∷ 2 ∷ 4 ∷ 3 ∷ 0 ∷ 2 ∷ 4 ∷ 1 ∷ []),
       kept (0x01 ∷ 0x01 ∷ 0x03 ∷ 0x03 ∷ 0x03 ∷ 0x01 ∷ 0x01 ∷ 0x01 ∷ 0x03 ∷ 0x03 ∷ 0x03 ∷ 0x03 ∷ 0x01 ∷ 0x01 ∷ 0x01 ∷ []) ++ darkened 0xC7,
     )
-    -- once: the rises after it leave the picture
+    -- once: the rises after it leave the picture, whatever it is by then
     ∷ (
-      traced (called (called (called (high FmatHigh) 0) 1) 0) (0x5A ∷ 0x81 ∷ []) (1 ∷ []) ++ traced (told-to FmatHigh []) (7 ∷ 9 ∷ []) (1 ∷ 0 ∷ 1 ∷ []),
-      darkened 0xC7 ++ (0x07 ∷ 7 ∷ 9 ∷ 0x05 ∷ 7 ∷ 9 ∷ 0x07 ∷ 7 ∷ 9 ∷ []),
+      traced (called (called (called (called (high FmatHigh) 0) 1) 0) 1) (7 ∷ 9 ∷ []) (0 ∷ 1 ∷ 0 ∷ 1 ∷ []),
+      0xC5 ∷ 7 ∷ 9 ∷ 0xC7 ∷ 7 ∷ 9 ∷ 0xC5 ∷ 7 ∷ 9 ∷ 0xC7 ∷ 7 ∷ 9 ∷ [],
     )
     -- FMAT low and the EF9366 take one frame
     ∷ (
@@ -144,9 +144,17 @@ twoFrames =
       2 ∷ 2 ∷ 0 ∷ 0 ∷ 1 ∷ 2 ∷ 1 ∷ 0 ∷ [],
     )
     ∷ (map told (levelsIn (W 1 2 ∷ VB true ∷ R 0 ∷ VB true ∷ T 9 ∷ VB false ∷ LP 1 2 ∷ VB true ∷ [])), 1 ∷ 1 ∷ 0 ∷ 1 ∷ [])
+    -- the rises up to a clear's end, by format and VB
+    ∷ (joined (λ f. each (λ vb. risesOf (stated (clearing f 0 vb))) 0 2) 0 3, 2 ∷ 1 ∷ 3 ∷ 2 ∷ 2 ∷ 1 ∷ [])
+    -- what is written after so many rises
     ∷ (
-      told (unwritten (R 0 ∷ T 9 ∷ VB false ∷ LP 1 2 ∷ [])) ∷ told (unwritten (R 0 ∷ T 9 ∷ VB false ∷ LP 1 2 ∷ W 1 2 ∷ [])) ∷ told (unwritten (W 0 0 ∷ R 0 ∷ [])) ∷ [],
-      1 ∷ 0 ∷ 0 ∷ [],
+      each (λ n. told (unwritten n true (R 0 ∷ T 9 ∷ VB false ∷ LP 1 2 ∷ VB true ∷ []))) 0 3 ++ each (λ n. told (unwritten n true (W 0 0 ∷ R 0 ∷ []))) 0 3,
+      1 ∷ 1 ∷ 1 ∷ 0 ∷ 1 ∷ 1 ∷ [],
+    )
+    ∷ (
+      each (λ n. told (unwritten n false (W 1 2 ∷ VB true ∷ LP 1 2 ∷ W 1 2 ∷ VB false ∷ T 9 ∷ VB true ∷ R 0 ∷ W 1 2 ∷ []))) 0 5
+          ++ each (λ n. told (unwritten n true (VB true ∷ VB false ∷ VB false ∷ VB true ∷ W 1 2 ∷ []))) 0 3,
+      0 ∷ 0 ∷ 0 ∷ 1 ∷ 1 ∷ 0 ∷ 0 ∷ 1 ∷ [],
     )
     -- the calls themselves: a write is refused until the second frame is over, a grant uses nothing
     ∷ (
