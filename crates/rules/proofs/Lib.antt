@@ -10,5 +10,6 @@ mod Memory
 mod Frames
 mod Alike
 mod Resting
+mod ClearSteps
 mod Clears
 mod ReadyFlag
