@@ -13,7 +13,7 @@ use Rattle.gdp.specs.Flat.{lightPenAt, workAt, formatIn, workIn, lightPe
 use Rattle.gdp.specs.Calls.{flawed}
 use Rattle.gdp.specs.Working.Bits.{clearOpenIn, strayLightPen, strayWork}
 use Rattle.gdp.specs.Working.Check.{stray, badStep, badSteps}
-use Rattle.gdp.proofs.Bytes.{clear-open}
+use Rattle.gdp.proofs.ClearBytes.{clear-open}
 
 -- where nothing runs, nothing running put into the state leaves it
 pub rests : (s : State) → busy s ≡ false → withWork Idle s ≡ s

@@ -1,6 +1,6 @@
 -- VB and the frames of a clear and of the light pen, by the bytes.
 -- Assumes nothing.
-use mathlib.Core.Path.{_≡_, refl, sym, ap, _∙_}
+use mathlib.Core.Path.{_≡_, refl}
 use Prim.Native.Nat.{ℕ, _+_, _/_}
 use mathlib.Core.Bool.{Bool, true, false, _&&_}
 use mathlib.Core.List.{List}
@@ -22,10 +22,10 @@ use Rattle.gdp.specs.Flat.{lightPenAt, workIn, lightPenIn, flat, formatO
 use Rattle.gdp.specs.Calls.{flawed, Blanks}
 use Rattle.gdp.specs.Working.Bits.{clearOpenIn}
 use Rattle.gdp.proofs.Packing.{light-pen-at, light-pen-part}
-use Rattle.gdp.proofs.Bytes.{clear-open, clear-last, clear-lit}
+use Rattle.gdp.proofs.ClearBytes.{clear-last, clear-lit}
 use Rattle.gdp.proofs.Told.{vbCode, vb-accepted}
 
--- the open frames as the bytes show them
+-- the pen's open frame, and a clear's last one, as the bytes show them
 pub light-pen-seen : (s : State) {b : Gdp} → b ≡ flat s → lightPenOpen (s .lightPen) ≡ lightPenOpen (lightPenAt (lightPenIn (b .signals)))
 unfolding flat
 light-pen-seen s e = rw (e, light-pen-part (s .vb) (s .lightPen) (s .flags), light-pen-at (s .lightPen)) refl

@@ -1,6 +1,7 @@
 pub mod Laws
 mod Packing
 mod Bytes
+mod ClearBytes
 mod Counts
 mod Flaws
 mod Told

@@ -1,19 +1,18 @@
--- What may come between the writes of a list: a read, a VB level and an LPCK edge change only what no list looks at, and no
--- memory, unless a clear runs.
+-- What may come between the writes of a list: a read, a VB level and an LPCK edge change only what no list looks at, unless a
+-- clear runs.
 -- Assumes nothing.
 use mathlib.Core.Path.{_≡_, refl, ap, _∙_}
-use mathlib.Core.Bool.{Bool, false, _&&_, _||_, not, and-false, true≢false}
+use mathlib.Core.Bool.{Bool, false, _||_}
 use Prim.Native.Nat.{ℕ}
 use lib.Dec.{eqb}
 use Rattle.basis.proofs.Cases.{cond-case}
-use Rattle.rules.specs.Sequence.{Work, Idle, Steps, Clear, lightPenOpen, workFalls, workRises, inLast}
-use Rattle.parts.specs.Format.{frames}
+use Rattle.rules.specs.Sequence.{Work, lightPenOpen}
 use Rattle.rules.specs.State.{State, withWork, lightPenRaises, vbRaises}
 use Rattle.rules.specs.Registers.{lightPenRead, afterRead}
-use Rattle.rules.specs.Blanking.{fallen, clearEnds, lightPenEnds, risen, afterVb, pictureVb, afterEdge}
-use Rattle.rules.specs.Refusals.{vbNumber}
-use Rattle.rules.specs.Calls.{Memory, memory, answer, outcome, readOut, blanked, struck}
-use Rattle.lists.proofs.Items.{clears, Kept}
+use Rattle.rules.specs.Blanking.{fallen, clearEnds, lightPenEnds, risen, afterVb, afterEdge}
+use Rattle.rules.specs.Calls.{Memory, answer, outcome, readOut, blanked, struck}
+use Rattle.rules.proofs.Laws.{clears, falls-same, rises-same, none-ends}
+use Rattle.lists.proofs.Items.{Kept}
 use Rattle.lists.proofs.Twin.{core}
 
 -- state t is s but for what no list looks at, and has its CTRL1
@@ -50,30 +49,15 @@ pub edge-aside : (s : State) (h v : ℕ) → Aside s ((struck s h v) .state)
 unfolding struck afterEdge lightPenRaises
 edge-aside s h v = answer-aside _ _ (cond-case (Aside s) (lightPenOpen (s .lightPen)) (λ _. stays refl refl) (λ _. stays refl refl))
 
--- a VB fall opens no frame of a command that is no clear, and a VB rise ends none
-falls-alike : (w : Work) → clears w ≡ false → workFalls w ≡ w
-falls-alike Idle n = refl
-falls-alike (Steps c p) n = refl
-falls-alike (Clear f o) n = absurd (true≢false n)
-
-rises-alike : (w : Work) → clears w ≡ false → workRises w ≡ w
-rises-alike Idle n = refl
-rises-alike (Steps c p) n = refl
-rises-alike (Clear f o) n = absurd (true≢false n)
-
-ends-none : (k : ℕ) (w : Work) → clears w ≡ false → inLast k w ≡ false
-ends-none k Idle n = refl
-ends-none k (Steps c p) n = refl
-ends-none k (Clear f o) n = absurd (true≢false n)
-
+-- a VB level, where no clear runs
 module _ (s : State) (n : clears (s .work) ≡ false) where
   fallen-aside : Aside s (fallen s)
   unfolding fallen
-  fallen-aside = stays (ap (λ (w : Work). core (withWork w s)) (falls-alike (s .work) n)) refl
+  fallen-aside = stays (ap (λ (w : Work). core (withWork w s)) (falls-same (s .work) n)) refl
 
   ends-aside : Aside s (lightPenEnds (clearEnds s))
   unfolding lightPenEnds clearEnds lightPenRaises
-  ends-aside = rw (ends-none (frames (s .format)) (s .work) n, rises-alike (s .work) n) (cond-case (Aside s) (lightPenOpen (s .lightPen)) (λ _. stays refl refl) (λ _. stays refl refl))
+  ends-aside = rw (none-ends s n, rises-same (s .work) n) (cond-case (Aside s) (lightPenOpen (s .lightPen)) (λ _. stays refl refl) (λ _. stays refl refl))
 
   risen-aside : Aside s (risen s)
   unfolding risen vbRaises
@@ -89,10 +73,3 @@ module _ (s : State) (n : clears (s .work) ≡ false) where
   pub vb-aside : (level : Bool) (m : Memory) → Aside s ((blanked s level m) .answer .state)
   unfolding blanked outcome
   vb-aside level m = answer-aside _ _ (vb-answer level)
-
-  -- and no memory changes
-  pub vb-memory : (level : Bool) (m : Memory) → (blanked s level m) .memory ≡ m
-  unfolding blanked outcome pictureVb
-  vb-memory level m =
-      rw (ends-none (frames (s .format)) (s .work) n, and-false (not (s .vb) && level))
-      (cond-case (λ (x : Memory). x ≡ m) (eqb (vbNumber s (m .picture)) 0) (λ _. refl) (λ _. refl))

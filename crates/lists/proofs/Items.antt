@@ -3,7 +3,7 @@
 -- Assumes nothing.
 use mathlib.Core.Path.{_≡_, refl, sym, ap, _∙_, subst}
 use mathlib.Core.Logic.{⊎-elim}
-use mathlib.Core.Bool.{Bool, true, false, true≢false, false≢true}
+use mathlib.Core.Bool.{true, false, true≢false, false≢true}
 use mathlib.Core.List.{List, [], _∷_}
 use Prim.Native.Nat.{ℕ, _+_, _<_}
 use lib.Dec.{eqb, ltb}
@@ -21,7 +21,7 @@ use Rattle.rules.specs.Cycles.{left, rested, afterOf, after}
 use Rattle.rules.specs.Commands.{commanded, clearing, prompt, begun, afterWrite}
 use Rattle.rules.specs.Refusals.{bad, writeNumber}
 use Rattle.rules.specs.Calls.{answer, written}
-use Rattle.rules.proofs.Laws.{write-good, after-good, idle-still}
+use Rattle.rules.proofs.Laws.{write-good, after-good, idle-still, clears}
 use Rattle.lists.specs.Item.{settings, resets, isDrawn, Item, Set, Command, address, value}
 use Rattle.lists.specs.Play.{taking, done}
 use Rattle.lists.proofs.Splits.{ended}
@@ -59,13 +59,7 @@ each P h2 h3 h5 h7 h8 h9 hA hB r5 rD rE draws (Set a v t b) =
 each P h2 h3 h5 h7 h8 h9 hA hB r5 rD rE draws (Command c l b) =
     ⊎-elim (one-of (P 0x0) resets (r5, (rD, (rE, tt))) c) (draws c) (or-cases (has c resets) (isDrawn (kind c)) (passed _ l))
 
--- a clear, which no item begins
-abbrev pub clears : Work → Bool
-clears Idle = false
-clears (Steps c p) = false
-clears (Clear f o) = true
-
--- state t has the format and CTRL1 of state s, and no clear runs
+-- state t has the format and CTRL1 of state s, and no clear runs, for no item begins one
 pub record Kept (s t : State) : Type 0 where
   pub format : t .format ≡ s .format
   pub ctrl1 : t .regs .ctrl1 ≡ s .regs .ctrl1

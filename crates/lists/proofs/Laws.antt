@@ -21,10 +21,11 @@ use Rattle.rules.specs.Cycles.{penDown, lights, tip, start, left, dotsOf, dots}
 use Rattle.rules.specs.Refusals.{bad, writeNumber, readNumber, grantNumber, vbNumber, edgeNumber}
 use Rattle.rules.specs.Calls.{Memory, memory, answer, outcome, written, readOut, granted, blanked, struck}
 use Rattle.rules.specs.Card.{Card, Event, W, R, T, VB, LP, outcomeOf, next, played}
+use Rattle.rules.proofs.Laws.{clears}
 use Rattle.lists.specs.Item.{Item, address, value}
 use Rattle.lists.specs.Play.{Fit, wrote, Plays, end, call, item, taking, done, itemDots, listDots}
 use Rattle.lists.specs.Erase.{Relit, PutBack, drawsNone, Ready}
-use Rattle.lists.proofs.Items.{clears, Kept, runs-out, Calm, taking-kept, done-kept, done-calm}
+use Rattle.lists.proofs.Items.{Kept, runs-out, Calm, taking-kept, done-kept, done-calm}
 use Rattle.lists.proofs.Twin.{same-dots, alike}
 use Rattle.lists.proofs.Played.{fits-then, takes, granted-runs, wrote-runs, calm, starts, paints}
 use Rattle.lists.proofs.Ways.{way-still}

@@ -15,13 +15,13 @@ use Rattle.rules.specs.Cycles.{lights, left, dots, after}
 use Rattle.rules.specs.Refusals.{bad}
 use Rattle.rules.specs.Calls.{Memory, memory, Outcome}
 use Rattle.rules.specs.Card.{Card, Event, W, R, T, VB, LP, outcomeOf, next}
-use Rattle.rules.proofs.Laws.{idle-still, after-good, read-good, vb-good, edge-good, grant-taken}
+use Rattle.rules.proofs.Laws.{idle-still, after-good, read-good, vb-good, edge-good, grant-taken, clears, vb-memory}
 use Rattle.lists.specs.Item.{Item}
 use Rattle.lists.specs.Play.{Fit, wrote, writesNone, Plays, end, call, item, alone, taking, done, itemDots, doneAll, listDots}
 use Rattle.lists.proofs.Splits.{withDots, accepted, onward}
-use Rattle.lists.proofs.Items.{clears, Kept, keeps, and-then, Calm, after-kept, taking-kept, taking-good}
+use Rattle.lists.proofs.Items.{Kept, keeps, and-then, Calm, after-kept, taking-kept, taking-good}
 use Rattle.lists.proofs.Twin.{blank, blank-good, core, twin-dots, twin-after, twin-taking, twin-dots-list}
-use Rattle.lists.proofs.Between.{Aside, aside-kept, read-aside, vb-aside, vb-memory, edge-aside}
+use Rattle.lists.proofs.Between.{Aside, aside-kept, read-aside, vb-aside, edge-aside}
 
 -- the card in another state, its memories as they were
 abbrev pub withState : State → Card → Card

@@ -22,9 +22,9 @@ use Rattle.rules.specs.Blanking.{fallen, endsClear, clearEnds, lightPenEnds, ri
 use Rattle.rules.specs.Refusals.{writeNumber}
 use Rattle.rules.specs.Calls.{answer, outcome, written, readOut, granted, blanked, struck}
 use Rattle.rules.specs.Card.{Card, Event, W, R, T, VB, LP, outcomeOf, next, played}
+use Rattle.rules.proofs.Laws.{clears, vb-memory}
 use Rattle.lists.specs.Erase.{drawsNone}
-use Rattle.lists.proofs.Items.{clears}
-use Rattle.lists.proofs.Between.{aside-kept, read-aside, vb-aside, vb-memory, edge-aside}
+use Rattle.lists.proofs.Between.{aside-kept, read-aside, vb-aside, edge-aside}
 
 -- the tables
 pub way-tables : (c : Card) (es : List Event) → (played c es) .tables ≡ c .tables

@@ -1,4 +1,4 @@
-// The part and its FMAT input, by which the window has its width and height.
+// The part and its FMAT input, by which the window has its width and height and a clear its frames.
 ghost use mathlib.Core.Path.{_≡_};
 ghost use Rattle.parts.specs.Format.{width, height, window, bytes, frames};
 use picture::screen::Window;

@@ -12,13 +12,13 @@ use Rattle.parts.specs.Command.{kind, prompting}
 use Rattle.parts.proofs.Laws.{frames-some}
 use Rattle.rules.specs.Sequence.{Work, Idle, Steps, Clear, framesOver, lightPenOpen, workFalls, workRises, inLast}
 use Rattle.rules.specs.State.{State, fresh, withRegs, lightPenRaises, vbRaises, readyRaises}
-use Rattle.rules.specs.Registers.{lightPenRead, afterRead}
 use Rattle.rules.specs.Figure.{Tables, cycles}
 use Rattle.rules.specs.Cycles.{rested, afterOf, after}
 use Rattle.rules.specs.Commands.{commanded, clearing, prompt, begun, afterWrite}
-use Rattle.rules.specs.Blanking.{fallen, endsClear, clearEnds, lightPenEnds, risen, afterVb, afterEdge}
+use Rattle.rules.specs.Blanking.{fallen, endsClear, clearEnds, lightPenEnds, risen, afterVb}
 use Rattle.rules.specs.Calls.{Memory, answer, outcome, written, readOut, granted, blanked, struck}
 use Rattle.rules.specs.Working.Frames.{FrameToCome}
+use Rattle.rules.proofs.Alike.{Alike, read-alike, edge-alike}
 
 pub fresh-frame : (f : Format) → FrameToCome (fresh f)
 unfolding fresh
@@ -72,6 +72,10 @@ vb-frame s level h =
     (λ _. cond-case FrameToCome level (λ _. h) λ _. subst (λ (n : ℕ). n < frames (s .format)) (sym (falls-over (s .work))) h)
     (λ _. cond-case FrameToCome level (λ _. ends-frame s h) λ _. h)
 
+-- a call that changes nothing of a clear
+alike-frame : {s t : State} → Alike s t → FrameToCome s → FrameToCome t
+alike-frame a h = rw (a .work, a .format) h
+
 -- what a call answers
 answer-frame : (number value : ℕ) (next s : State) → FrameToCome next → FrameToCome s → FrameToCome ((answer number value next s) .state)
 unfolding answer
@@ -83,10 +87,7 @@ module _ (s : State) (h : FrameToCome s) where
   write-frame a v = answer-frame _ _ (afterWrite s a v) s (cond-case FrameToCome (eqb a 0x0) (λ _. begun-frame s v h) λ _. h) h
 
   pub read-frame : (a : ℕ) → FrameToCome ((readOut s a) .state)
-  unfolding readOut afterRead lightPenRead
-  read-frame a =
-      answer-frame _ _ (afterRead s a) s
-      (cond-case FrameToCome (eqb a 0x0) (λ _. h) λ _. cond-case FrameToCome (eqb a 0xC || eqb a 0xD) (λ _. h) λ _. h) h
+  read-frame a = alike-frame (read-alike s a) h
 
   pub grant-frame : (n : ℕ) (m : Memory) (t : Tables) → FrameToCome ((granted s n m t) .answer .state)
   unfolding granted outcome after
@@ -97,5 +98,4 @@ module _ (s : State) (h : FrameToCome s) where
   blank-frame level m = answer-frame _ _ (afterVb s level) s (vb-frame s level h) h
 
   pub edge-frame : (x y : ℕ) → FrameToCome ((struck s x y) .state)
-  unfolding struck afterEdge lightPenRaises
-  edge-frame x y = answer-frame _ _ (afterEdge s x y) s (cond-case FrameToCome (lightPenOpen (s .lightPen)) (λ _. h) λ _. h) h
+  edge-frame x y = alike-frame (edge-alike s x y) h

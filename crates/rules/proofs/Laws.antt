@@ -7,5 +7,6 @@ pub use Rattle.rules.proofs.Split.{after-steps, dots-steps, left-steps,
 pub use Rattle.rules.proofs.Grants.{after-format, after-lights, grant-taken, grants-join}
 pub use Rattle.rules.proofs.Memory.{Below, dots-below}
 pub use Rattle.rules.proofs.Frames.{fresh-frame, write-frame, read-frame, grant-frame, blank-frame, edge-frame}
+pub use Rattle.rules.proofs.NoClear.{clears, falls-same, rises-same, none-ends, vb-memory}
 pub use Rattle.rules.proofs.Clears.{clear-comes, clears-come}
 pub use Rattle.rules.proofs.ReadyFlag.{ready-raises}

@@ -9,6 +9,7 @@ mod Grants
 mod Memory
 mod Frames
 mod Alike
+mod NoClear
 mod Resting
 mod ClearSteps
 mod Clears

@@ -31,7 +31,7 @@ falls-ready (Steps c p) = refl
 falls-ready (Clear f o) = refl
 
 -- state t comes from s with ready low: where ready is high in t, the flag is as its mask has it
-abbrev pub Flagged : State → State → Type 0
+abbrev Flagged : State → State → Type 0
 Flagged s t = ready (t .work) ≡ true → t .flags .ready ≡ (s .flags .ready || bitAt 6 (s .regs .ctrl1))
 
 not-ready : (s t : State) → ready (s .work) ≡ false → ready (t .work) ≡ ready (s .work) → Flagged s t
@@ -61,7 +61,8 @@ answer-flagged : (number value : ℕ) (t s : State) → ready (s .work) ≡ fals
 unfolding answer
 answer-flagged number value t s l h = cond-case (Flagged s) (eqb number 0) (λ _. h) λ _. not-ready s s l refl
 
-pub ready-raises : (c : Card) (e : Event) → ready (c .state .work) ≡ false → Flagged (c .state) ((next c e) .state)
+pub ready-raises : (c : Card) (e : Event) → ready (c .state .work) ≡ false → ready ((next c e) .state .work) ≡ true
+    → (next c e) .state .flags .ready ≡ (c .state .flags .ready || bitAt 6 (c .state .regs .ctrl1))
 unfolding next outcomeOf granted blanked outcome after
 ready-raises c (W a v) l = not-ready (c .state) ((written (c .state) a v) .state) l (ap (λ (t : State). ready (t .work)) (write-refused (c .state) a v l))
 ready-raises c (R a) l = not-ready (c .state) ((readOut (c .state) a) .state) l (ap ready (read-alike (c .state) a .work))

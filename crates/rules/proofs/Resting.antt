@@ -1,24 +1,23 @@
 -- Where nothing runs, calls that write no register leave it so, and every dot.
 -- Assumes nothing.
-use mathlib.Core.Path.{_≡_, refl, sym, ap, _∙_, subst}
-use mathlib.Core.Bool.{Bool, true, false, _&&_, not, false≢true}
+use mathlib.Core.Path.{_≡_, refl, ap, _∙_, subst}
+use mathlib.Core.Bool.{Bool, true, _&&_, not, false≢true}
 use mathlib.Core.List.{List, [], _∷_}
 use Prim.Native.Nat.{ℕ, _-_}
 use native.Mathlib.Omega.{arith}
 use lib.Dec.{eqb}
 use Rattle.basis.proofs.Cases.{cond-case}
 use Rattle.picture.specs.Bit.{digit}
-use Rattle.parts.specs.declared.format.Format.{Format}
-use Rattle.parts.specs.Format.{frames}
-use Rattle.rules.specs.Sequence.{Work, Idle, LightPen, workFalls, workRises, inLast}
-use Rattle.rules.specs.State.{Regs, Flags, State, state, withWork, vbRaises}
-use Rattle.rules.specs.Blanking.{fallen, endsClear, clearEnds, risen, afterVb, pictureVb}
+use Rattle.rules.specs.Sequence.{Idle, workFalls, workRises}
+use Rattle.rules.specs.State.{State, withWork, vbRaises}
+use Rattle.rules.specs.Blanking.{fallen, clearEnds, risen, afterVb}
 use Rattle.rules.specs.Refusals.{vbNumber}
-use Rattle.rules.specs.Calls.{Memory, answer, outcome, blanked}
+use Rattle.rules.specs.Calls.{answer, outcome, blanked}
 use Rattle.rules.specs.Card.{Card, Event, W, R, T, VB, LP, outcomeOf, next, played}
 use Rattle.rules.specs.Frames.{unwritten}
 use Rattle.rules.proofs.Split.{idle-still}
 use Rattle.rules.proofs.Alike.{Alike, same, read-alike, edge-alike, grant-alike, grant-memory, pen-alike}
+use Rattle.rules.proofs.NoClear.{clears, none-ends, vb-memory}
 
 -- calls that write no register leave it so, and the picture as it is
 pub record Rests (c d : Card) : Type 0 where
@@ -28,9 +27,6 @@ pub record Rests (c d : Card) : Type 0 where
 
 rests : {c d : Card} → c .state .work ≡ Idle → Alike (c .state) (d .state) → d .memory ≡ c .memory → Rests c d
 rests i a m = record { work = a .work ∙ i; memory = m; flag = a .flag }
-
-none-ends : (s : State) → s .work ≡ Idle → endsClear s ≡ false
-none-ends s i = ap (inLast (frames (s .format))) i
 
 record Idles (s t : State) : Type 0 where
   pub work : t .work ≡ Idle
@@ -42,20 +38,7 @@ idle-levels s level i =
     let up = pen-alike (withWork (workRises (s .work)) s) in
     cond-case (Idles s) (s .vb)
     (λ _. cond-case (Idles s) level (λ _. record { work = i; flag = λ x. x }) λ _. record { work = ap workFalls i; flag = λ x. x })
-    (λ _. cond-case (Idles s) level (λ _. rw (none-ends s i) (record { work = up .work ∙ ap workRises i; flag = up .flag })) λ _. record { work = i; flag = λ x. x })
-
-picture-at : (f : Format) (r : Regs) (p : LightPen) (vb level : Bool) (g : Flags) (picture : List ℕ)
-    → pictureVb (state f r Idle p vb g) level picture ≡ picture
-unfolding pictureVb
-picture-at f r p true true g picture = refl
-picture-at f r p true false g picture = refl
-picture-at f r p false true g picture = refl
-picture-at f r p false false g picture = refl
-
-idle-picture : (s : State) (level : Bool) (picture : List ℕ) → s .work ≡ Idle → pictureVb s level picture ≡ picture
-idle-picture s level picture i =
-    subst (λ (w : Work). pictureVb (withWork w s) level picture ≡ picture) (sym i)
-    (picture-at (s .format) (s .regs) (s .lightPen) (s .vb) level (s .flags) picture)
+    (λ _. cond-case (Idles s) level (λ _. rw (none-ends s (ap clears i)) (record { work = up .work ∙ ap workRises i; flag = up .flag })) λ _. record { work = i; flag = λ x. x })
 
 idle-vb : (c : Card) (level : Bool) → c .state .work ≡ Idle → Rests c (next c (VB level))
 unfolding next outcomeOf blanked outcome answer
@@ -65,7 +48,7 @@ idle-vb c level i =
     let h = cond-case (Idles s) taken (λ _. idle-levels s level i) λ _. record { work = i; flag = λ x. x } in
     record {
       work = h .work;
-      memory = rw (idle-picture s level (c .memory .picture) i) (cond-case (λ (x : Memory). x ≡ c .memory) taken (λ _. refl) λ _. refl);
+      memory = vb-memory s (ap clears i) level (c .memory);
       flag = h .flag;
     }
 

@@ -2,6 +2,7 @@
 
 mod common;
 
+use common::clears::left_by;
 use common::random::Random;
 use common::{picture_bytes, Card, CLEARS, FORMATS, NO_FLAGS, TWO_FRAMES};
 use second::{ClearKind, Flags, Pen, State, Work};
@@ -53,8 +54,7 @@ fn any_begun(random: &mut Random) -> Begun {
     card.vb(random.flag()).command(0x08).write(1, ctrl1).command(code);
     assert_eq!(card.state.flags, NO_FLAGS);
     let takes = if card.state.format == TWO_FRAMES { 2 } else { 1 };
-    let left = if code == 0x0C && ctrl1 & 2 != 0 { 0xFF } else { 0x00 };
-    Begun { card, kind, takes, left }
+    Begun { card, kind, takes, left: left_by(code, ctrl1) }
 }
 
 /// Each level comes up to three times over, in turn, so that a list has a few frames.

@@ -91,7 +91,7 @@ modesRead rest =
     ++ times 2 (eight (λ f. 2 ∷ l ∷ (o + getD (0 ∷ 2 * v ∷ 0 ∷ []) f 9) ∷ []))) in
     joined (λ (v : ℕ). block 0 0 v ++ (block 1 0 v ++ (block 0 1 v ++ block 1 1 v))) 0 2
 
--- bit 7 where no frame, and where one, is open
+-- the frames in all 256 `modes`: 1 for bit 6, and with FMAT high 2 for bit 7
 unfoldable pub framesRead : List ℕ
 framesRead =
     times 8 (replicate 8 0) ++ (times 8 (replicate 8 1)

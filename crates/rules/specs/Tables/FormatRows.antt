@@ -1,7 +1,7 @@
 -- What the format has no part in: registers, commands, VB, edges and refusals are the same in all three, row by row, but for the
 -- first frame of a clear with FMAT high.
 -- Assumes nothing.
-use Prim.Native.Nat.{ℕ, _+_, _-_, _*_}
+use Prim.Native.Nat.{ℕ, _+_, _*_}
 use mathlib.Core.Bool.{cond}
 use mathlib.Core.List.{List, [], _∷_, _++_}
 use lib.Dec.{eqb}
@@ -55,7 +55,7 @@ formatFrames =
     ∷ (levels (levelled 1 1), levels (lastFrame 1 1))
     -- FMAT high in its first frame: the rise ends that frame and not the clear, and all else goes as where a clear waits
     ∷ (joined (λ pen. levelled 1 0 3 pen 0 1 ++ levelled 1 0 5 pen 0 1) 0 3, joined (λ pen. lastFrame 1 1 2 pen 0 1 ++ lastFrame 1 1 4 pen 0 1) 0 3)
-    -- nothing of a clear ends at a fall, with the present level, or where none is in its frame
+    -- nothing of a clear ends at a fall, with the present level, or where none is inside a frame
     ∷ (
       joined (λ w. joined (λ pen. levelled 1 0 w pen 0 0 ++ (levelled 1 0 w pen 1 0 ++ levelled 1 0 w pen 1 1)) 0 3) 0 6,
       joined (λ w. joined (λ pen. lastFrame 1 0 w pen 0 0 ++ (lastFrame 1 0 w pen 1 0 ++ lastFrame 1 0 w pen 1 1)) 0 3) 0 6,

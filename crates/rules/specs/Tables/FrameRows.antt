@@ -12,7 +12,7 @@ use Rattle.rules.specs.Registers.{registerAt}
 use Rattle.rules.specs.Refusals.{bad}
 use Rattle.rules.specs.Tables.Rows.{nth, but, high, stated, shown, strikes, gives, refuses, rich}
 
--- what may go on: 0 nothing, 1 a vector, 2 and 3 a clear that waits and one in its frame, 4 and 5 the same of 0C
+-- what may go on: 0 nothing, 1 a vector, 2 and 3 a clear that waits and one in its first frame, 4 and 5 the same of 0C
 unfoldable pub doing : ℕ → List ℕ → List ℕ
 doing w r =
     getD (

@@ -2,7 +2,7 @@
 -- The picture is two bytes, for neither `afterVb` nor `pictureVb` asks for its length; the last row takes the calls themselves.
 -- Assumes nothing.
 use Prim.Native.Nat.{ℕ, _+_, _*_}
-use mathlib.Core.Bool.{Bool, true, false, cond}
+use mathlib.Core.Bool.{true, false, cond}
 use mathlib.Core.List.{List, [], _∷_, _++_, map}
 use lib.Dec.{eqb}
 use lib.ListN.{length, getD, replicate}
@@ -18,15 +18,15 @@ use Rattle.rules.specs.Cycles.{used, dots, after}
 use Rattle.rules.specs.Blanking.{endsClear, afterVb, pictureVb, afterEdge}
 use Rattle.rules.specs.Refusals.{bad}
 use Rattle.rules.specs.Calls.{written}
-use Rattle.rules.specs.Card.{Card, Event, W, R, T, VB, LP}
+use Rattle.rules.specs.Card.{W, R, T, VB, LP}
 use Rattle.rules.specs.Frames.{levelsIn, risesIn, framesAfter, risesOf, unwritten}
 use Rattle.rules.specs.Tables.Play.{said, new}
 use Rattle.rules.specs.Tables.Rows.{but, stated, shown, rich}
 
 -- a fresh processor of a format after some accepted writes, the first of them last in the list
-unfoldable pub told-to : Format → List (ℕ × ℕ) → State
-told-to f [] = fresh f
-told-to f (w ∷ ws) = (written (told-to f ws) (w .0) (w .1)) .state
+unfoldable pub toldTo : Format → List (ℕ × ℕ) → State
+toldTo f [] = fresh f
+toldTo f (w ∷ ws) = (written (toldTo f ws) (w .0) (w .1)) .state
 
 -- a call: 0 and 1 VB's level, 2 a read of STATUS, 3 an edge, 4 a grant of 9 cycles
 unfoldable pub called : State → ℕ → State
@@ -55,14 +55,14 @@ lit s = s ∷ 255 ∷ 255 ∷ []
 
 -- 04 with ready's mask high, VB low; with VB high
 unfoldable pub low : Format → State
-low f = told-to f ((0x0, 0x04) ∷ (0x1, 0x40) ∷ [])
+low f = toldTo f ((0x0, 0x04) ∷ (0x1, 0x40) ∷ [])
 
 unfoldable pub high : Format → State
-high f = (written (afterVb (told-to f ((0x1, 0x40) ∷ [])) true) 0x0 0x04) .state
+high f = (written (afterVb (toldTo f ((0x1, 0x40) ∷ [])) true) 0x0 0x04) .state
 
 -- a code with CTRL1 03, through two frames
 unfoldable pub twice : ℕ → List ℕ
-twice c = trace (told-to FmatHigh ((0x0, c) ∷ (0x1, 0x03) ∷ [])) (1 ∷ 0 ∷ 1 ∷ 0 ∷ 1 ∷ [])
+twice c = trace (toldTo FmatHigh ((0x0, c) ∷ (0x1, 0x03) ∷ [])) (1 ∷ 0 ∷ 1 ∷ 0 ∷ 1 ∷ [])
 
 -- a clear on format f inside a frame or waiting, frames over by its row, VB at a level
 unfoldable pub clearing : ℕ → ℕ → ℕ → List ℕ
@@ -81,7 +81,7 @@ twoFrames =
     )
     -- nor do reads, edges and grants, before a frame, inside one, between the two; ready's flag of 05 goes by the read, and comes anew
     ∷ (
-      trace (told-to FmatHigh ((0x0, 0x04) ∷ (0x0, 0x05) ∷ (0x1, 0x40) ∷ [])) (2 ∷ 4 ∷ 1 ∷ 3 ∷ 2 ∷ 0 ∷ 4 ∷ 3 ∷ 1 ∷ 2 ∷ 4 ∷ 3 ∷ 0 ∷ 2 ∷ 4 ∷ 1 ∷ []),
+      trace (toldTo FmatHigh ((0x0, 0x04) ∷ (0x0, 0x05) ∷ (0x1, 0x40) ∷ [])) (2 ∷ 4 ∷ 1 ∷ 3 ∷ 2 ∷ 0 ∷ 4 ∷ 3 ∷ 1 ∷ 2 ∷ 4 ∷ 3 ∷ 0 ∷ 2 ∷ 4 ∷ 1 ∷ []),
       kept (0x01 ∷ 0x01 ∷ 0x03 ∷ 0x03 ∷ 0x03 ∷ 0x01 ∷ 0x01 ∷ 0x01 ∷ 0x03 ∷ 0x03 ∷ 0x03 ∷ 0x03 ∷ 0x01 ∷ 0x01 ∷ 0x01 ∷ []) ++ darkened 0xC7,
     )
     -- once: the rises after it leave the picture, whatever it is by then
@@ -100,15 +100,15 @@ twoFrames =
       joined (λ c. kept (0x03 ∷ 0x01 ∷ 0x03 ∷ 0x01 ∷ []) ++ cond (eqb c 3) (lit 0x07) (darkened 0x07)) 0 4,
     )
     -- 0C with the eraser
-    ∷ (trace (told-to FmatHigh ((0x0, 0x0C) ∷ (0x1, 0x01) ∷ [])) (1 ∷ 0 ∷ 1 ∷ 0 ∷ 1 ∷ []), kept (0x03 ∷ 0x01 ∷ 0x03 ∷ 0x01 ∷ []) ++ darkened 0x07)
+    ∷ (trace (toldTo FmatHigh ((0x0, 0x0C) ∷ (0x1, 0x01) ∷ [])) (1 ∷ 0 ∷ 1 ∷ 0 ∷ 1 ∷ []), kept (0x03 ∷ 0x01 ∷ 0x03 ∷ 0x01 ∷ []) ++ darkened 0x07)
     -- 07 with a pen sequence under way: the sequence keeps its one frame, the clear has two
     ∷ (
-      trace (told-to FmatHigh ((0x0, 0x07) ∷ (0x0, 0x08) ∷ [])) (1 ∷ 0 ∷ 1 ∷ 0 ∷ 1 ∷ []),
+      trace (toldTo FmatHigh ((0x0, 0x07) ∷ (0x0, 0x08) ∷ [])) (1 ∷ 0 ∷ 1 ∷ 0 ∷ 1 ∷ []),
       kept (0x02 ∷ 0x00 ∷ 0x03 ∷ 0x01 ∷ []) ++ darkened 0x07,
     )
     -- and an edge in the first frame ends it there
     ∷ (
-      trace (told-to FmatHigh ((0x0, 0x04) ∷ (0x0, 0x09) ∷ (0x1, 0x10) ∷ [])) (1 ∷ 0 ∷ 3 ∷ 1 ∷ 0 ∷ 3 ∷ 1 ∷ []),
+      trace (toldTo FmatHigh ((0x0, 0x04) ∷ (0x0, 0x09) ∷ (0x1, 0x10) ∷ [])) (1 ∷ 0 ∷ 3 ∷ 1 ∷ 0 ∷ 3 ∷ 1 ∷ []),
       kept (0x02 ∷ 0x00 ∷ 0x91 ∷ 0x93 ∷ 0x91 ∷ 0x91 ∷ []) ++ darkened 0x97,
     )
     -- no cycle is used and no dot written between the frames

@@ -2,7 +2,7 @@ use mathlib.Core.Path.{ap, subst, _∙_}
 use Prim.Native.Nat.{ℕ, _≤_, _<_}
 use native.Mathlib.Omega.{arith}
 use Rattle.parts.specs.Format.{frames}
-use Rattle.gdp.proofs.Bytes.{one-frame, more-frames}
+use Rattle.gdp.proofs.ClearBytes.{one-frame, more-frames}
 use borrow.Author.Needs.{needs}
 use Rattle.gdp.proofs.bits.clear_modes.Statement.{statement}
 use Rattle.gdp.proofs.bits.clear_modes.Tie as tie

@@ -3,7 +3,8 @@ use Rattle.rules.specs.Sequence.{Idle}
 use Rattle.rules.specs.State.{withWork}
 use Rattle.rules.specs.Blanking.{clearEnds}
 use Rattle.gdp.specs.Flat.{flat, stateOf}
-use Rattle.gdp.proofs.Bytes.{modes-rise, rise-code, rise-done}
+use Rattle.gdp.proofs.Bytes.{rise-code, rise-done}
+use Rattle.gdp.proofs.ClearBytes.{modes-rise}
 use borrow.Author.Needs.{needs}
 use Rattle.gdp.proofs.state.Gdp.clear_ended.Statement.{statement}
 use Rattle.gdp.proofs.state.Gdp.clear_ended.Tie as tie

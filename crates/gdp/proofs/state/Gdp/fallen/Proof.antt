@@ -1,6 +1,7 @@
 use Rattle.rules.specs.Blanking.{fallen}
 use Rattle.gdp.specs.Flat.{flat}
-use Rattle.gdp.proofs.Bytes.{modes-fall, signals-fall, fall-code, fall-done}
+use Rattle.gdp.proofs.Bytes.{signals-fall, fall-code, fall-done}
+use Rattle.gdp.proofs.ClearBytes.{modes-fall}
 use borrow.Author.Needs.{needs}
 use Rattle.gdp.proofs.state.Gdp.fallen.Statement.{statement}
 use Rattle.gdp.proofs.state.Gdp.fallen.Tie as tie

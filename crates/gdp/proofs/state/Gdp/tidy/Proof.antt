@@ -6,7 +6,8 @@ use Rattle.rules.specs.Sequence.{Work}
 use Rattle.rules.specs.State.{withWork}
 use Rattle.gdp.specs.Flat.{namedModes, namedSignals, workAt, flat, stateOf}
 use Rattle.gdp.proofs.Flaws.{rests, idle-rests, steps-run}
-use Rattle.gdp.proofs.Bytes.{named-signals, clear-runs, clear-kept}
+use Rattle.gdp.proofs.Bytes.{named-signals}
+use Rattle.gdp.proofs.ClearBytes.{clear-runs, clear-kept}
 use borrow.Author.Needs.{needs}
 use Rattle.gdp.proofs.state.Gdp.tidy.Statement.{statement}
 use Rattle.gdp.proofs.state.Gdp.tidy.Tie as tie
