@@ -74,7 +74,8 @@ pub ones-stand-for-none : named allOnes ≡ false
 unfolding namedModes allOnes
 ones-stand-for-none = refl
 
--- worked examples: a clear 0C inside its first frame on FMAT high, and inside its second; a command that steps on FMAT low; nothing runs on EF9366
+-- worked examples: a clear 0C inside its first frame on FMAT high, and inside its second; a command that steps on FMAT low; nothing
+-- runs on EF9366
 pub clear-modes : modesOf FmatHigh (Clear true (record { inside = true; over = 0 })) ≡ 0x71
 unfolding modesOf
 clear-modes = refl

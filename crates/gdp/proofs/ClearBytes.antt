@@ -1,6 +1,6 @@
 -- The laws of a clear's bits of `modes`: whether it fills, and its frames.
 -- Assumes nothing.
-use mathlib.Core.Path.{_≡_, refl, sym, _∙_}
+use mathlib.Core.Path.{_≡_, refl, sym, ap, _∙_}
 use mathlib.Core.Logic.{_⊎_, inl, inr}
 use Prim.Native.Nat.{ℕ, zero, suc, _+_, _-_, _*_, _/_, _%_, _<_, _≤_, min}
 use mathlib.Core.Bool.{Bool, true, false, cond, _&&_, false≢true}
@@ -15,10 +15,10 @@ use Rattle.parts.specs.declared.format.Format.{Format}
 use Rattle.parts.specs.Format.{frames}
 use Rattle.parts.proofs.Laws.{frames-some, frames-most}
 use Rattle.rules.specs.Sequence.{Frames, Work, Idle, Steps, Clear, clearOpen, workFalls, workRises, inLast, clearLights}
-use Rattle.gdp.specs.Flat.{formatNumber, formatAt, workNumber, workAt, modesOf, formatIn, workIn, namedModes, overIn, framesIn}
+use Rattle.gdp.specs.Flat.{formatAt, workNumber, workAt, modesOf, formatIn, workIn, namedModes, overIn, framesIn}
 use Rattle.gdp.specs.Working.Bits.{clearOpenIn, modesFall, modesRise}
 use Rattle.gdp.proofs.Packing.{format-below, work-part, open-part}
-use Rattle.gdp.proofs.Bytes.{peel, named-put}
+use Rattle.gdp.proofs.Bytes.{bit-sum, peel, named-put}
 
 -- where neither nothing nor a stepping command runs, a clear does, and its byte stands but for bit 7 where it is not in use
 pub clear-runs : (m : ℕ) → namedModes m ≡ true → (workIn m ≡ 0 → ⊥) → (workIn m ≡ 1 → ⊥) → workIn m ≡ 2
@@ -46,13 +46,8 @@ more-frames m k b h = omega arith
 -- a fall of VB opens the frame that a clear waits for
 clear-opens : (f : Format) (l : Bool) (o : Frames) → modesFall (modesOf f (Clear l o)) ≡ modesOf f (workFalls (Clear l o))
 unfolding modesOf
-clear-opens f l o = rw (work-part f (Clear l o)) (opens (formatNumber f) (digit l) (digit (o .inside)) (o .over) (format-below f) (digit-lt l) (digit-lt (o .inside)))
-  where
-    opens : (n p q v : ℕ) → n < 3 → p < 2 → q < 2
-        → (n + 16 + 32 * p + 64 * q + 128 * v) % 64 + 64 + (n + 16 + 32 * p + 64 * q + 128 * v) / 128 * 128 ≡ n + 16 + 32 * p + 64 + 128 * v
-    opens n p q v hn hp hq =
-        let over : (n + 16 + 32 * p + 64 * q + 128 * v) / 128 ≡ v = omega arith in
-        rw over (omega arith)
+clear-opens f l o =
+    rw (work-part f (Clear l o)) (omega (arith, bit-sum true 6 (modesOf f (Clear l o)), ap digit (open-part f (Clear l o))))
 
 pub modes-fall : (f : Format) (w : Work) → modesFall (modesOf f w) ≡ modesOf f (workFalls w)
 modes-fall f Idle = rw (work-part f Idle) refl

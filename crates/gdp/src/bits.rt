@@ -204,7 +204,7 @@ pub(crate) fn modes_at_fall(modes: u8) -> u8
     ensures { λ r. ⌜ r ≡ modesFall modes ⌝ }
 {
     if modes / 8 % 4 == CLEAR {
-        return modes % 64 + 64 + modes / 128 * 128;
+        return with_bit(modes, 6, true);
     }
     modes
 }

@@ -3,6 +3,7 @@
 
 use against::card::Card;
 use against::draw::arguments::bytes;
+use against::draw::count;
 use against::draw::states::FORMATS;
 use against::flat::{Flat, FlatAnswer};
 use against::lent::Part;
@@ -10,8 +11,6 @@ use against::library::Library;
 use against::model::Model;
 use against::random::Random;
 
-/// By the format's number.
-const FRAMES: [usize; 3] = [1, 2, 1];
 const CLEARS: [u8; 4] = [0x04, 0x06, 0x07, 0x0C];
 /// CTRL1: the pen, and the mask of the ready flag.
 const PEN: u8 = 1 << 1;
@@ -94,9 +93,9 @@ fn carried(card: &impl Card, random: &mut Random, format: usize, code: u8) {
         let level = random.flag();
         panel.set_vb(level);
         let rises = level && !vb;
-        falls += usize::from(!level && vb);
+        falls += u8::from(!level && vb);
         vb = level;
-        if rises && falls == FRAMES[format] {
+        if rises && falls == count::frames(FORMATS[format]) {
             break;
         }
     }

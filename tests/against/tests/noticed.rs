@@ -3,8 +3,10 @@
 use against::call::Call;
 use against::card::Card;
 use against::case::Case;
+use against::convert::format_of;
 use against::differ::compare;
 use against::difference::Difference;
+use against::draw::count;
 use against::flat::{
     Flat, FlatAddress, FlatAnswer, FlatPbm, CLEAR, CLEAR_IS_OPEN, FIRST_FRAME_OVER, FORMAT, READY_FLAG,
     SIGNALS_BIT_0, STEPS, VB, WORK,
@@ -218,17 +220,18 @@ impl Card for Wrong {
     }
 }
 
-fn clears_on(state: &Flat, formats: [u8; 2]) -> bool {
-    state.modes & WORK == CLEAR && formats.contains(&(state.modes & FORMAT))
+/// A clear runs that has so many frames.
+fn clears_in(state: &Flat, frames: u8) -> bool {
+    let format = format_of(state.modes & FORMAT);
+    state.modes & WORK == CLEAR && format.is_some_and(|format| count::frames(format) == frames)
 }
 
-/// A clear runs that has one frame.
 fn one_frame(state: &Flat) -> bool {
-    clears_on(state, [0, 2])
+    clears_in(state, 1)
 }
 
 fn two_frames(state: &Flat) -> bool {
-    clears_on(state, [1, 1])
+    clears_in(state, 2)
 }
 
 /// The same answer with bits of `modes` where it is accepted.

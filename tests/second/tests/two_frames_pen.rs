@@ -4,32 +4,40 @@ mod common;
 
 use common::clears::{checkered, untouched, whole};
 use common::{Card, CLEARS, TWO_FRAMES};
-use second::{Pen, Work};
+use second::{ClearKind, Pen, Work};
 
 /// The pen sequence and the clear, which go their own ways.
 fn pen_and_clear(card: &Card) -> (Pen, Work) {
     (card.state.pen, card.state.work)
 }
 
+fn clear(kind: ClearKind, open: bool, frames_done: u8) -> Work {
+    Work::Clear { kind, open, frames_done }
+}
+
+/// The sequence is over and the clear inside its second frame, whose end changes the picture.
+fn ends_with_the_second_frame(mut card: Card, kind: ClearKind) {
+    assert_eq!(pen_and_clear(&card), (Pen::Off, clear(kind, true, 1)));
+    assert!(untouched(&card), "{kind:?}");
+    card.vb(true);
+    assert_eq!(pen_and_clear(&card), (Pen::Off, Work::Idle));
+    assert!(whole(&card, 0x00), "{kind:?}");
+}
+
 // reading b.4: the pen has one frame, the first of the clear's two
 #[test]
 fn a_pen_sequence_ends_after_the_first_frame() {
     for (code, kind) in CLEARS {
-        let clear = |open, frames_done| Work::Clear { kind, open, frames_done };
         let mut card = checkered(TWO_FRAMES, 0x00);
         card.command(0x08).command(code).vb(true);
-        assert_eq!(pen_and_clear(&card), (Pen::Waiting, clear(false, 0)));
+        assert_eq!(pen_and_clear(&card), (Pen::Waiting, clear(kind, false, 0)));
         card.vb(false);
-        assert_eq!(pen_and_clear(&card), (Pen::Open, clear(true, 0)));
+        assert_eq!(pen_and_clear(&card), (Pen::Open, clear(kind, true, 0)));
         card.vb(true);
-        assert_eq!(pen_and_clear(&card), (Pen::Off, clear(false, 1)));
+        assert_eq!(pen_and_clear(&card), (Pen::Off, clear(kind, false, 1)));
         card.vb(false).edge(10, 20);
-        assert_eq!(pen_and_clear(&card), (Pen::Off, clear(true, 1)));
         assert_eq!((card.state.xlp, card.state.ylp), (0, 0));
-        assert!(untouched(&card), "{code:02X}");
-        card.vb(true);
-        assert_eq!(pen_and_clear(&card), (Pen::Off, Work::Idle));
-        assert!(whole(&card, 0x00), "{code:02X}");
+        ends_with_the_second_frame(card, kind);
     }
 }
 
@@ -37,17 +45,12 @@ fn a_pen_sequence_ends_after_the_first_frame() {
 #[test]
 fn an_edge_in_the_first_frame() {
     for (code, kind) in CLEARS {
-        let clear = |open, frames_done| Work::Clear { kind, open, frames_done };
         let mut card = checkered(TWO_FRAMES, 0x00);
         card.command(0x09).command(code).vb(true).vb(false).edge(10, 20);
-        assert_eq!(pen_and_clear(&card), (Pen::Off, clear(true, 0)));
+        assert_eq!(pen_and_clear(&card), (Pen::Off, clear(kind, true, 0)));
         card.vb(true).edge(11, 21).vb(false).edge(12, 22);
-        assert_eq!(pen_and_clear(&card), (Pen::Off, clear(true, 1)));
         assert_eq!((card.state.xlp, card.state.ylp), (41, 20));
-        assert!(untouched(&card), "{code:02X}");
-        card.vb(true);
-        assert_eq!(pen_and_clear(&card), (Pen::Off, Work::Idle));
-        assert!(whole(&card, 0x00), "{code:02X}");
+        ends_with_the_second_frame(card, kind);
     }
 }
 
@@ -55,18 +58,13 @@ fn an_edge_in_the_first_frame() {
 #[test]
 fn a_clear_in_the_open_frame_of_the_pen() {
     for (code, kind) in CLEARS {
-        let clear = |open, frames_done| Work::Clear { kind, open, frames_done };
         let mut card = checkered(TWO_FRAMES, 0x00);
         card.command(0x08).vb(true).vb(false).command(code);
-        assert_eq!(pen_and_clear(&card), (Pen::Open, clear(false, 0)));
+        assert_eq!(pen_and_clear(&card), (Pen::Open, clear(kind, false, 0)));
         card.vb(true);
-        assert_eq!(pen_and_clear(&card), (Pen::Off, clear(false, 0)));
+        assert_eq!(pen_and_clear(&card), (Pen::Off, clear(kind, false, 0)));
         card.vb(false).vb(true).vb(false);
-        assert_eq!(pen_and_clear(&card), (Pen::Off, clear(true, 1)));
-        assert!(untouched(&card), "{code:02X}");
-        card.vb(true);
-        assert_eq!(pen_and_clear(&card), (Pen::Off, Work::Idle));
-        assert!(whole(&card, 0x00), "{code:02X}");
+        ends_with_the_second_frame(card, kind);
     }
 }
 

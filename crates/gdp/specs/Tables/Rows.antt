@@ -45,8 +45,7 @@ byteRow b =
     b .x ∷ b .y ∷ b .done ∷ b .ctrl1 ∷ b .ctrl2 ∷ b .csize ∷ b .deltax ∷ b .deltay ∷ b .xlp ∷ b .ylp ∷ b .code ∷ b .modes ∷ b .signals ∷ []
 
 -- a state: its registers, then 0 to 2 for the format; 0 for idle, 1, code and progress, or 2, 0C and the frames (1 where one is
--- open and 2 for each that is over); 0 to 2 for the pen's
--- sequence; VB; the flags for pen end, VB and ready
+-- open and 2 for each that is over); 0 to 2 for the pen's sequence; VB; the flags for pen end, VB and ready
 unfoldable pub regsRow : Regs → List ℕ
 regsRow r = r .ctrl1 ∷ r .ctrl2 ∷ r .csize ∷ r .deltax ∷ r .deltay ∷ r .x ∷ r .y ∷ r .xlp ∷ r .ylp ∷ []
 

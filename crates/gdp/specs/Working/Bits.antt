@@ -37,7 +37,7 @@ inUse g = g / 2 % 64 * 2
 
 -- a fall of VB
 abbrev pub modesFall : ℕ → ℕ
-modesFall m = cond (eqb (workIn m) 2) (m % 64 + 64 + m / 128 * 128) m
+modesFall m = cond (eqb (workIn m) 2) (withBit true 6 m) m
 
 -- a rise that ends a clear's frame and not the clear
 abbrev pub modesRise : ℕ → ℕ

@@ -2,7 +2,7 @@
 
 use super::codes::{self, Class};
 use super::count;
-use super::states::{good, registers, running, settled, TILT};
+use super::states::{good, registers, running, settled, FORMATS, TILT};
 use crate::random::Random;
 use second::{ClearKind, Format, Pen, State, Work};
 
@@ -38,9 +38,9 @@ pub const CAUSES: [(&str, Planted); 33] = [
     ("a character 20 to 7F running tilted", |random| tilted(random, character)),
     ("0A running tilted", |random| tilted(random, |_| 0x0A)),
     ("0B running tilted", |random| tilted(random, |_| 0x0B)),
-    ("VB high in the one frame of a clear", |random| vb_high_in_clear(random, &ONE_FRAME, 0)),
-    ("VB high in the first frame of two of a clear", |random| vb_high_in_clear(random, &TWO_FRAMES, 0)),
-    ("VB high in the second frame of two of a clear", |random| vb_high_in_clear(random, &TWO_FRAMES, 1)),
+    ("VB high in the one frame of a clear", |random| vb_high_in_clear(random, 1, 0)),
+    ("VB high in the first frame of two of a clear", |random| vb_high_in_clear(random, 2, 0)),
+    ("VB high in the second frame of two of a clear", |random| vb_high_in_clear(random, 2, 1)),
     ("VB high in the open frame of the pen", vb_high_in_pen_frame),
 ];
 
@@ -106,14 +106,13 @@ fn tilted(random: &mut Random, code: fn(&mut Random) -> u8) -> State {
     State { ctrl2: state.ctrl2 | TILT, ..state }
 }
 
-const ONE_FRAME: [Format; 2] = [Format::Ef9366, Format::Ef9365Low];
-const TWO_FRAMES: [Format; 1] = [Format::Ef9365High];
-
-fn vb_high_in_clear(random: &mut Random, formats: &[Format], frames_done: u8) -> State {
+fn vb_high_in_clear(random: &mut Random, frames: u8, frames_done: u8) -> State {
+    let formats: Vec<Format> =
+        FORMATS.into_iter().filter(|format| count::frames(*format) == frames).collect();
     let kind = random.pick(&[ClearKind::Screen, ClearKind::Fill]);
     let work = Work::Clear { kind, open: true, frames_done };
     let pen = random.pick(&[Pen::Off, Pen::Waiting]);
-    State { format: random.pick(formats), work, pen, vb: true, ..registers(random) }
+    State { format: random.pick(&formats), work, pen, vb: true, ..registers(random) }
 }
 
 fn vb_high_in_pen_frame(random: &mut Random) -> State {
