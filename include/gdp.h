@@ -68,7 +68,7 @@ enum {
     GDP_BAD_ADDRESS = 4,  /* gdp_write, gdp_read: address 4, 6, E or F, or above 15 */
     GDP_READ_ONLY = 5,    /* gdp_write: to C or D */
     GDP_BUSY = 6,         /* gdp_write: to any other address while a command runs */
-    GDP_TILTED = 7,       /* gdp_write: a character command (20 to 7F, 0A, 0B) while CTRL2 bit 2, tilt, is high */
+    GDP_TILTED = 7,       /* no call gives it: until characters were slanted, a character command while tilt is high */
     GDP_OFF_SCREEN = 8,   /* gdp_lpck: h above 63 or v above 255 */
     GDP_SHORT_BUFFER = 9, /* gdp_write_pbm: the buffer is shorter than the file */
     GDP_NO_PBM = 10,      /* gdp_read_pbm: no P1 at the start with white space behind it, or no two numbers after it */
@@ -78,7 +78,7 @@ enum {
 
 /* The state. Make it by gdp_fresh and hand on what each call answers; it may be copied, kept and read freely.
    Refused with 1: x or y above 4,095; ctrl1 above 127; ctrl2 above 15; bit 1 of xlp high; a command that steps and takes
-   no cycles, or is a character with tilt high, or has a done that is not below its cycles; VB high inside an open frame
+   no cycles, or has a done that is not below its cycles; VB high inside an open frame
    of a clear (either one, where it has two) or the pen; and a number that names no format, no kind of work or no pen
    sequence, for such bytes cannot be read as a state. What is not in use is not looked at: done and code where no
    command steps, the bits of a clear where none runs, the bits that are named so below. An accepted call hands it back
@@ -88,7 +88,7 @@ typedef struct gdp_state {
     uint16_t done;    /* the cycles that the stepping command has used; else not in use */
     uint8_t ctrl1;    /* 7 bits: 0 down, 1 pen (else eraser), 2 fast writing, 3 cyclic screen; 4 to 6 let the rise of
                          pen end, VB and ready set its flag */
-    uint8_t ctrl2;    /* 4 bits: 0 and 1 line type, 2 tilt, 3 turned */
+    uint8_t ctrl2;    /* 4 bits: 0 and 1 line type; characters and blocks: 2 tilted (slanted), 3 turned (they run upwards) */
     uint8_t csize;    /* P in the upper half, Q in the lower; 0 means 16 */
     uint8_t deltax, deltay;
     uint8_t xlp, ylp; /* where the light pen was */

@@ -1,6 +1,7 @@
 /* Every refusal number, from every call that can give it, through include/gdp.h; the two calls of plain PBM have pbm.c.
    Held: the number is the lowest that applies; the value is 0, and state and lent memory are as handed in. Null pointers
-   with length 0 are among the memories. And what is not in use is not looked at: a state with left-overs is answered as
+   with length 0 are among the memories. No call gives GDP_TILTED, and tilt is no cause of 1: characters are accepted and
+   run with it (slants.c has their dots). And what is not in use is not looked at: a state with left-overs is answered as
    the same without them, only that a refusal hands them back. What answers otherwise is told, and the exit status is
    then 1. tools/hosts runs it. */
 #include "judge.h"
@@ -63,6 +64,8 @@ static void bad(gdp_state s) {
 enum { FORMAT = 7, STEPS = 1 << 3, CLEAR = 2 << 3, WORK = 3 << 3 };
 enum { IS_0C = 1 << 5, CLEAR_OPEN = 1 << 6, FIRST_OVER = 1 << 7 };
 enum { VB = 1 << 1, PEN_OPEN = 2 << 2, PEN = 3 << 2 };
+/* CTRL2. */
+enum { TILT = 1 << 2 };
 
 /* The causes that gdp_state's comment lists, each by itself in a state that is else good. */
 static void bad_states(gdp_state good) {
@@ -76,11 +79,10 @@ static void bad_states(gdp_state good) {
     WITH(s.xlp = 2);
     WITH((s.modes = f | STEPS, s.code = 0x05));
     WITH((s.modes = f | STEPS, s.code = 0x04));
-    WITH((s.modes = f | STEPS, s.code = 0x41, s.ctrl2 = 4));
-    WITH((s.modes = f | STEPS, s.code = 0x0A, s.ctrl2 = 4));
-    WITH((s.modes = f | STEPS, s.code = 0x0B, s.ctrl2 = 4));
     WITH((s.modes = f | STEPS, s.code = 0x0F, s.done = 1));
     WITH((s.modes = f | STEPS, s.code = 0x41, s.done = 48));
+    WITH((s.modes = f | STEPS, s.code = 0x41, s.done = 48, s.ctrl2 = TILT));
+    WITH((s.modes = f | STEPS, s.code = 0x0B, s.done = 16, s.ctrl2 = TILT));
     WITH((s.modes = f | CLEAR | CLEAR_OPEN, s.signals = VB));
     WITH((s.modes = f | CLEAR | CLEAR_OPEN | FIRST_OVER, s.signals = VB));
     WITH(s.signals = PEN_OPEN | VB);
@@ -162,20 +164,15 @@ static void left_overs(gdp_state clean, size_t right) {
 #undef WITH
 }
 
-static int is_character(unsigned code) {
-    return (code >= 0x20 && code <= 0x7F) || code == 0x0A || code == 0x0B;
-}
-
-/* 4 to 7, for every address and every byte. */
-static void writes(gdp_state s, int busy, int tilted) {
+/* 4 to 6, for every address and every byte. */
+static void writes(gdp_state s, int busy) {
     for (unsigned a = 0; a < 256; a++)
         for (unsigned v = 0; v < 256; v++)
             put(s, a, v,
-                a == 4 || a == 6 || a >= 0xE                ? GDP_BAD_ADDRESS
-                : a == GDP_XLP || a == GDP_YLP              ? GDP_READ_ONLY
-                : busy                                      ? GDP_BUSY
-                : a == GDP_CMD && tilted && is_character(v) ? GDP_TILTED
-                                                            : GDP_ACCEPTED);
+                a == 4 || a == 6 || a >= 0xE   ? GDP_BAD_ADDRESS
+                : a == GDP_XLP || a == GDP_YLP ? GDP_READ_ONLY
+                : busy                         ? GDP_BUSY
+                                               : GDP_ACCEPTED);
 }
 
 static void reads(gdp_state s) {
@@ -205,8 +202,8 @@ static void memories(gdp_state s, size_t right) {
     }
 }
 
-static void good(gdp_state s, size_t right, int busy, int tilted) {
-    writes(s, busy, tilted);
+static void good(gdp_state s, size_t right, int busy) {
+    writes(s, busy);
     reads(s);
     edges(s);
     memories(s, right);
@@ -226,14 +223,18 @@ int main(void) {
         gdp_state idle = fresh.state;
         gdp_state letter = put(idle, GDP_CMD, 0x41, GDP_ACCEPTED);
         gdp_state clear = put(idle, GDP_CMD, 0x04, GDP_ACCEPTED);
-        gdp_state tilted = put(idle, GDP_CTRL2, 0x04, GDP_ACCEPTED);
-        good(idle, lengths[f], 0, 0);
-        good(letter, lengths[f], 1, 0);
-        good(clear, lengths[f], 1, 0);
-        good(tilted, lengths[f], 0, 1);
-        good(put(tilted, GDP_CMD, 0x11, GDP_ACCEPTED), lengths[f], 1, 1);
+        gdp_state tilted = put(idle, GDP_CTRL2, TILT, GDP_ACCEPTED);
+        gdp_state slanted = put(tilted, GDP_CMD, 0x41, GDP_ACCEPTED);
+        good(idle, lengths[f], 0);
+        good(letter, lengths[f], 1);
+        good(clear, lengths[f], 1);
+        good(tilted, lengths[f], 0);
+        good(slanted, lengths[f], 1);
+        good(put(tilted, GDP_CMD, 0x0A, GDP_ACCEPTED), lengths[f], 1);
+        good(put(tilted, GDP_CMD, 0x0B, GDP_ACCEPTED), lengths[f], 1);
+        good(put(tilted, GDP_CMD, 0x11, GDP_ACCEPTED), lengths[f], 1);
         bad_states(idle);
-        const gdp_state states[] = {idle, tilted, letter, clear, put(idle, GDP_CMD, 0x0C, GDP_ACCEPTED),
+        const gdp_state states[] = {idle, tilted, letter, slanted, clear, put(idle, GDP_CMD, 0x0C, GDP_ACCEPTED),
                                     put(idle, GDP_CMD, 0x08, GDP_ACCEPTED)};
         for (unsigned i = 0; i < sizeof states / sizeof *states; i++) {
             gdp_state s = states[i];

@@ -2,7 +2,9 @@
    lowest byte that it wrote looked up. Counted from the caller's stack pointer, so arguments and return address are in
    it, and the answer, which lies in the caller's own frame, is not. Prints a line for each call; tools/size runs it.
    The inputs reach each branch that a call can take: every command in every format, line types, tilt and turned,
-   characters of two sizes, cyclic or not, all levels and frames, files with and without white space, and refusals. */
+   characters of two sizes, cyclic or not, all levels and frames, files with and without white space, and refusals; and
+   characters straight, slanted, upwards and slanted upwards, of four sizes, whole and in part, inside the window, cut by
+   each of its edges and outside. */
 #include "gdp.h"
 
 #include <stdio.h>
@@ -132,6 +134,36 @@ static void format(unsigned number, size_t bytes) {
                 }
 }
 
+/* Some of a character's cycles from wherever it stands, and the rest. */
+static void granted(gdp_state s) {
+    static const unsigned cycles[] = {1, 7, 8, 60, 300, 65535};
+    for (unsigned i = 0; i < sizeof cycles / sizeof *cycles; i++) {
+        gdp_state part = call(GRANT, s, cycles[i], sizeof table);
+        call(GRANT, part, 50, sizeof table);
+        call(GRANT, part, 65535, sizeof table);
+    }
+}
+
+/* A character and both blocks in each way that they can lie, from each place. */
+static void characters(unsigned number, size_t bytes) {
+    static const unsigned codes[] = {0x0A, 0x0B, 0x41}, sizes[] = {0x11, 0x32, 0x14, 0x00};
+    static const unsigned ctrl1[] = {0x03, 0x01, 0x0B}; /* pen, eraser, cyclic screen; all down */
+    const uint16_t across = number == GDP_FMAT_LOW ? 256 : 512, up = number == GDP_FMAT_HIGH ? 512 : 256;
+    const uint16_t xs[] = {0, 3, 130, (uint16_t)(across - 5), 4090}, ys[] = {0, 3, 130, (uint16_t)(up - 5), 4090};
+    length = bytes;
+    gdp_state s = gdp_fresh((uint8_t)number).state;
+    for (unsigned place = 0; place < 25; place++)
+        for (unsigned way = 0; way < 16; way += 4) /* CTRL2: tilt, turned */
+            for (unsigned i = 0; i < 4 * 3 * 3; i++) {
+                s.x = xs[place % 5];
+                s.y = ys[place / 5];
+                s.ctrl1 = (uint8_t)ctrl1[i / 12];
+                s.ctrl2 = (uint8_t)way;
+                s.csize = (uint8_t)sizes[i % 4];
+                granted(call(WRITE, s, GDP_CMD, codes[i / 4 % 3]));
+            }
+}
+
 /* Reads a file of this beginning and of dots with something between; whole, cut, and as one of another format. */
 static void reading(unsigned number, const char *head, const char *between) {
     size_t end = strlen(head), gap = strlen(between);
@@ -174,6 +206,9 @@ int main(void) {
     format(GDP_EF9366, GDP_EF9366_BYTES);
     format(GDP_FMAT_HIGH, GDP_FMAT_HIGH_BYTES);
     format(GDP_FMAT_LOW, GDP_FMAT_LOW_BYTES);
+    characters(GDP_EF9366, GDP_EF9366_BYTES);
+    characters(GDP_FMAT_HIGH, GDP_FMAT_HIGH_BYTES);
+    characters(GDP_FMAT_LOW, GDP_FMAT_LOW_BYTES);
     files(GDP_EF9366, GDP_EF9366_BYTES, "512 256");
     files(GDP_FMAT_HIGH, GDP_FMAT_HIGH_BYTES, "512 512");
     files(GDP_FMAT_LOW, GDP_FMAT_LOW_BYTES, "256 256");

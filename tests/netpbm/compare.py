@@ -1,10 +1,11 @@
 #!/usr/bin/env python3
-"""Holds the library's plain PBM against Netpbm's programs. sh tools/netpbm runs it with the path of pbm.c's program.
+"""Holds the library's plain PBM against Netpbm's programs. sh tools/netpbm runs it with the paths of two programs, those
+of pbm.c and of examples/scale.c.
 
 The files that the library writes show their dots in Netpbm; the plain files that Netpbm writes are read by the library;
-where the two read a file otherwise, each has its claim; and sh tools/picture writes the file of its log's dots. What
-Netpbm does with such files may be otherwise in another version: that is noted and is no failure. The last line is
-'N passed, M failed'.
+where the two read a file otherwise, each has its claim; sh tools/picture writes the file of its log's dots; and the
+documents' plain pictures show what the examples draw. What Netpbm does with such files may be otherwise in another
+version: that is noted and is no failure. The last line is 'N passed, M failed'.
 """
 import functools
 import glob
@@ -250,6 +251,43 @@ def plays_to_the_file(name):
     return file == written(EF9366, pictured(EF9366, example(name)))
 
 
+# The documents' pictures ----------------------------------------------------------------------------------------------
+
+
+def contents(name):
+    try:
+        with open(name, "rb") as file:
+            return file.read()
+    except OSError as why:
+        raise Wrong(f"{name} could not be read: {why.strerror}") from why
+
+
+def scale():
+    """The picture that examples/scale.c draws, by the file that it keeps."""
+    status, _, said = run([SCALE, f"{SCALE}.pbm"], b"")
+    if status != 0:
+        raise Wrong(f"it ended with status {status}: {said}")
+    number, picture = library("read", EF9366, contents(f"{SCALE}.pbm"))
+    if number != 0:
+        raise Wrong(f"gdp_read_pbm refused its file with {number}")
+    return picture
+
+
+def documented(name):
+    """The raster of one of docs/pictures, as viewers show plain PBM: a lit dot is black."""
+    return png_raster(EF9366, contents(f"docs/pictures/{name}.png"))
+
+
+def documents_show_the_example(name):
+    return documented(name) == raster(EF9366, pictured(EF9366, example(name)))
+
+
+def documents_show_the_scale():
+    if documented("scale") != raster(EF9366, scale()):
+        raise Wrong(f"other dots; if they are right, pnmtopng < {SCALE}.pbm > docs/pictures/scale.png")
+    return True
+
+
 def main():
     print(f"Netpbm {version()}")
     names = sorted(path[len("examples/") : -len(".out")] for path in glob.glob("examples/*.out"))
@@ -265,11 +303,13 @@ def main():
     otherwise(list(generated(EF9366))[-1])
     for name in names:
         tried(f"examples/{name}.log: sh tools/picture writes the file of its dots", plays_to_the_file, name)
+    tried("docs/pictures/night.png shows the dots of examples/night.out", documents_show_the_example, "night")
+    tried("docs/pictures/scale.png shows what examples/scale.c draws", documents_show_the_scale)
     print(f"{passed} passed, {failed} failed")
     sys.exit(failed > 0)
 
 
-if len(sys.argv) != 2:
-    sys.exit("tests/netpbm/compare.py: it takes the path of the program of pbm.c, and sh tools/netpbm gives it.")
-DRIVER = sys.argv[1]
+if len(sys.argv) != 3:
+    sys.exit("tests/netpbm/compare.py: it takes the programs of pbm.c and scale.c, and sh tools/netpbm gives them.")
+DRIVER, SCALE = sys.argv[1:]
 main()

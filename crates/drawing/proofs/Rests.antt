@@ -9,17 +9,14 @@ use borrow.Author.Tests.{ltb-true, ltb-false}
 use Rattle.motion.specs.declared.position.Spot.{Spot}
 use Rattle.motion.specs.declared.vector.Line.{Line}
 use Rattle.motion.specs.declared.character.Body.{Body}
-use Rattle.motion.specs.Position.{ahead, spot, moved}
+use Rattle.motion.specs.declared.character.Lie.{Lie}
+use Rattle.motion.specs.Position.{ahead, moved}
 use Rattle.motion.specs.Vector.{vectorCycles, vectorX, vectorY}
-use Rattle.motion.specs.Character.{bodyCycles, bodyX, bodyY}
+use Rattle.motion.specs.Character.{bodyCycles, bodyWay}
 use Rattle.motion.specs.Working.Cells.{Sized}
-use Rattle.motion.proofs.Laws.{end-x, end-y}
+use Rattle.motion.proofs.Laws.{same-spot, end-way}
 use Rattle.drawing.specs.Figure.{Figure, Stroke, Cells, cyclesOf, way, endWay}
 use Rattle.drawing.specs.Run.{placeOf, restOf}
-
--- a place by its two numbers
-same-spot : {s : Spot} {x y : ℕ} → s .x ≡ x → s .y ≡ y → s ≡ spot x y
-same-spot ex ey = λ j. spot (ex j) (ey j)
 
 -- short of the count a figure stands on the place of the next cycle, at the count where it leaves X and Y
 rests : (f : Figure) (start : Spot) (i : ℕ) {s : Spot} → i ≤ cyclesOf f
@@ -45,13 +42,10 @@ stroke-rests ctrl2 l start i h ex ey =
     (λ k. same-spot (rw (last k) at ex) (rw (last k) at ey))
 
 -- a character or block: one past its last cycle is where it leaves X and Y
-pub cells-rest : (turned : Bool) (b : Body) (start : Spot) (i : ℕ) {s : Spot} → Sized b → i ≤ bodyCycles b
-    → s .x ≡ ahead (start .x) (bodyX turned b i) → s .y ≡ ahead (start .y) (bodyY turned b i)
-    → s ≡ restOf (Cells turned b) start i
-unfolding cyclesOf placeOf way endWay moved
-cells-rest turned b start i size h ex ey =
-    rests (Cells turned b) start i h
-    (λ _. same-spot ex ey)
-    (λ k. same-spot
-    (ex ∙ ap (λ (n : ℕ). ahead (start .x) (bodyX turned b n)) k ∙ end-x b size turned (start .x))
-    (ey ∙ ap (λ (n : ℕ). ahead (start .y) (bodyY turned b n)) k ∙ end-y b size turned (start .y)))
+pub cells-rest : (lie : Lie) (b : Body) (start : Spot) (i : ℕ) {s : Spot} → Sized b → i ≤ bodyCycles b
+    → s ≡ moved start (bodyWay lie b i) → s ≡ restOf (Cells lie b) start i
+unfolding cyclesOf placeOf way endWay
+cells-rest lie b start i size h e =
+    rests (Cells lie b) start i h
+    (λ _. e)
+    (λ k. e ∙ ap (λ (n : ℕ). moved start (bodyWay lie b n)) k ∙ end-way b size lie start)

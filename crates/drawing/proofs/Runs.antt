@@ -11,17 +11,20 @@ use Rattle.picture.specs.declared.screen.Window.{Window}
 use Rattle.picture.specs.Dot.{paint, gathered}
 use Rattle.picture.specs.Screen.{Screen}
 use Rattle.picture.proofs.Laws.{paint-length, paint-more, paint-further}
+use Rattle.motion.specs.declared.position.Spot.{Spot}
 use Rattle.motion.specs.declared.vector.Line.{Line}
 use Rattle.motion.specs.declared.vector.Stroke.{Stroke}
 use Rattle.motion.specs.declared.character.Body.{Body}
+use Rattle.motion.specs.declared.character.Lie.{Lie}
 use Rattle.motion.specs.declared.character.Cell.{Cell}
 use Rattle.motion.specs.LineType.{lineOn}
 use Rattle.motion.specs.Working.Strokes.{OnDot}
 use Rattle.motion.specs.Working.Cells.{Counts, OnPlace}
 use Rattle.motion.specs.Glyph.{inked}
 use Rattle.drawing.specs.declared.tip.Tip.{Tip}
-use Rattle.drawing.specs.Run.{mark}
-use Rattle.drawing.specs.Working.Cycle.{vectorDot, bodyDot}
+use Rattle.drawing.specs.Figure.{Cells, way, writes}
+use Rattle.drawing.specs.Run.{mark, placeOf, dotOf}
+use Rattle.drawing.specs.Working.Cycle.{vectorDot}
 
 -- k cycles from cycle `from` on have left picture q of picture p, and cycle i is next
 pub record Done (lit : Bool) (dot : ℕ → List ℕ) (from : ℕ) (p : List ℕ) (k i : ℕ) (q : List ℕ) : Type 0 where
@@ -52,15 +55,15 @@ module _ {lit : Bool} {dot : ℕ → List ℕ} {from : ℕ} {p : List ℕ} where
     pub still : {w : Window} → Screen w (length p) → Screen w (length q)
     still s = rw size s
 
-module _ (t : Tip) {x₀ y₀ : ℕ} {on : Bool} where
+module _ (t : Tip) {on : Bool} where
   -- what a stroke on a dot of its vector marks is that dot
-  pub vector-here : (ctrl2 : ℕ) {l : Line} {s : Stroke} → OnDot l x₀ y₀ s → s .i ≤ l .long → on ≡ lineOn ctrl2 (s .i)
+  pub vector-here : (ctrl2 : ℕ) {x₀ y₀ : ℕ} {l : Line} {s : Stroke} → OnDot l x₀ y₀ s → s .i ≤ l .long → on ≡ lineOn ctrl2 (s .i)
       → mark t on (s .x) (s .y) ≡ vectorDot t ctrl2 l x₀ y₀ (s .i)
   unfolding vectorDot
-  vector-here ctrl2 {l} {s} at h e = let now : min (s .i) (l .long) ≡ s .i = min-eq-left h in rw (e, at .x, at .y, now)
+  vector-here ctrl2 {l = l} {s = s} at h e = let now : min (s .i) (l .long) ≡ s .i = min-eq-left h in rw (e, at .x, at .y, now)
 
   -- what a cell on its place marks is the dot of its cycle
-  pub body-here : (glyph : List ℕ) {turned : Bool} {b : Body} {c : Cell} → Counts b c → OnPlace turned b x₀ y₀ c
-      → on ≡ inked glyph (c .column) (c .row) → mark t on (c .x) (c .y) ≡ bodyDot t turned b glyph x₀ y₀ (c .i)
-  unfolding bodyDot
-  body-here glyph g at e = rw (e, g .column, g .row, at .x, at .y)
+  pub body-here : (glyph : List ℕ) (lie : Lie) {b : Body} {c : Cell} (start : Spot) → Counts b c → OnPlace lie b start c
+      → on ≡ inked glyph (c .column) (c .row) → mark t on (c .at .x) (c .at .y) ≡ dotOf t (Cells lie b) glyph start (c .i)
+  unfolding dotOf placeOf way writes
+  body-here glyph lie start g at e = rw (e, g .column, g .row, at)

@@ -2,7 +2,7 @@
 -- Assumes nothing.
 use mathlib.Core.Path.{_≡_, refl, sym, _∙_}
 use Prim.Native.Nat.{ℕ, _*_, _<_}
-use mathlib.Core.Bool.{Bool, true, false, not, _&&_, _||_, Bool·beq, or-false, true≢false, false≢true}
+use mathlib.Core.Bool.{Bool, true, false, not, _||_, Bool·beq, true≢false, false≢true}
 use native.Mathlib.Numerals.{add-one}
 use lib.Dec.{T, eqb, ltb, leb, leb·zero}
 use Rattle.basis.proofs.Table.{beq-eq, below, passes}
@@ -17,7 +17,7 @@ use Rattle.parts.specs.Command.{kind, lettering, lining}
 use Rattle.parts.proofs.Laws.{line-kind}
 use Rattle.drawing.specs.Figure.{Pause, cyclesOf}
 use Rattle.rules.specs.State.{Regs}
-use Rattle.rules.specs.Figure.{tilted, figureBy, figure, cycles}
+use Rattle.rules.specs.Figure.{figureBy, figure, cycles}
 use Rattle.gdp.specs.Working.Check.{badStep}
 
 -- the kinds of 0B and 0F
@@ -86,20 +86,14 @@ module _ (r : Regs) (c : ℕ) (h : c < 256) where
       from NoCycle f t = absurd (false≢true t)
 
   -- a stepping command that cannot have come so far: a character command
-  pub bad-letter : (n p : ℕ) → lettering (kind c) ≡ true → n ≡ cycles r c → (tilted r || leb n p) ≡ badStep r c p
+  pub bad-letter : (n p : ℕ) → n ≡ cycles r c → leb n p ≡ badStep r c p
   unfolding badStep
-  bad-letter n p t e = rw (t, e) (turn (tilted r) (leb (cycles r c) p))
-    where
-      turn : (a b : Bool) → (a || b) ≡ (b || a)
-      turn true true = refl
-      turn true false = refl
-      turn false true = refl
-      turn false false = refl
+  bad-letter n p e = rw e
 
   -- a vector
   pub bad-line : (l : Line) (p : ℕ) → lining (kind c) ≡ true → l ≡ lineOf c (r .deltax) (r .deltay) → ltb (l .long) p ≡ badStep r c p
   unfolding badStep cycles figure figureBy cyclesOf vectorCycles
-  bad-line l p t e = rw (line-kind (kind c) t, e, or-false, add-one) refl
+  bad-line l p t e = rw (line-kind (kind c) t, e, add-one) refl
 
   -- 0F, and the codes that take no write cycle
   pub bad-other : (p : ℕ) → lettering (kind c) ≡ false → lining (kind c) ≡ false → (not (eqb c 0x0F) || leb (cyclesOf Pause) p) ≡ badStep r c p
@@ -107,9 +101,9 @@ module _ (r : Regs) (c : ℕ) (h : c < 256) where
   bad-other p f g = rw (pause-code c h) (from (kind c) p f g)
     where
       from : (k : Kind) (p : ℕ) → lettering k ≡ false → lining k ≡ false
-          → (not (pausing k) || leb (cyclesOf Pause) p) ≡ (leb (cyclesOf (figureBy r c k)) p || (lettering k && tilted r))
+          → (not (pausing k) || leb (cyclesOf Pause) p) ≡ leb (cyclesOf (figureBy r c k)) p
       from NoCycle p f g = rw (leb·zero p) refl
-      from OneCycle p f g = sym (or-false _)
+      from OneCycle p f g = refl
       from Vector p f g = absurd (true≢false g)
       from Character p f g = absurd (true≢false f)
       from Block p f g = absurd (true≢false f)

@@ -1,7 +1,7 @@
 -- A grant as the code goes about it is the definition's grant.
 -- Assumes nothing.
 use mathlib.Core.Path.{_≡_, refl, sym, ap, _∙_}
-use mathlib.Core.Bool.{Bool, true, false, cond, not, _&&_, _||_, and-false, or-true, or-false}
+use mathlib.Core.Bool.{Bool, true, false, cond, not, _&&_, _||_, and-false, or-false}
 use mathlib.Core.List.{List, []}
 use Prim.Native.Nat.{ℕ, zero, suc, _+_, _-_, _≤_, _<_, min}
 use native.Mathlib.Omega.{arith}
@@ -27,7 +27,7 @@ use Rattle.drawing.specs.Run.{startOf, placeOf, restOf, mark, dotOf, dotsFrom, 
 use Rattle.drawing.specs.Working.Cycle.{Granted}
 use Rattle.rules.specs.Sequence.{Frames, Work, Idle, Steps, Clear}
 use Rattle.rules.specs.State.{State, withPlace, withRegs, withWork, readyRaises}
-use Rattle.rules.specs.Figure.{Tables, tables, figureBy, figure, cycles, glyph, tilted}
+use Rattle.rules.specs.Figure.{Tables, tables, figureBy, figure, cycles, glyph}
 use Rattle.rules.specs.Cycles.{cyclic, tip, here, start, leftOf, left, used, dotsOf, dots, rested, afterOf, after}
 use Rattle.rules.specs.Refusals.{badRegs, wrongPicture, wrongTable}
 use Rattle.gdp.specs.declared.state.Gdp.{Gdp}
@@ -103,11 +103,10 @@ stray-place b o =
     let xy = or-parts (ltb 4095 (b .x)) (ltb 4095 (b .y)) (or-parts _ _ (or-parts _ _ (or-parts _ _ regs .0) .0) .0) in
     (omega (arith, ltb-false 4095 (b .x) (xy .0)), omega (arith, ltb-false 4095 (b .y) (xy .1)))
 
--- bytes of a command that steps: not stray, and no character while tilt is high; f is what it draws
+-- bytes of a command that steps and are not stray; f is what it draws
 pub record Stepping (b : Gdp) (f : Figure) : Type 0 where
   pub sound : stray b ≡ false
   pub steps : workIn (b .modes) ≡ 1
-  pub upright : (lettering (kind (b .code)) && tilted (regsOf b)) ≡ false
   pub draws : figure (regsOf b) (b .code) ≡ f
 
 -- such a command with m cycles, some of them left, that is lent memories of the right lengths
@@ -126,7 +125,7 @@ module _ {b : Gdp} {f : Figure} (h : Stepping b f) (pic tab : List ℕ) {m : ℕ
   -- they are the definition's
   step-code : (n : ℕ) → grantCode b n pic tab ≡ stepCode b m pic tab
   unfolding badStep cycles lowest wrongPicture wrongTable stateOf
-  step-code n = rw (em, steps-flawed b (h .sound) (h .steps), h .upright, h .draws, or-false (leb (cyclesOf f) (b .done)))
+  step-code n = rw (em, steps-flawed b (h .sound) (h .steps), h .draws)
 
   -- with another number than 0 the grant is refused
   pub step-refused : (n : ℕ) {k : ℕ} → k ≡ stepCode b m pic tab → (k ≡ 0 → ⊥)
@@ -195,41 +194,33 @@ pause-ran b t g k pic o =
       picture = rw no-dots;
     }
 
--- a stepping command of bytes that are not stray: one that is no character draws the figure of its kind
+-- a stepping command of bytes that are not stray
 module _ (b : Gdp) (sound : stray b ≡ false) (steps : workIn (b .modes) ≡ 1) where
-  by-kind : {K : Kind} → kind (b .code) ≡ K → lettering K ≡ false → Stepping b (figureBy (regsOf b) (b .code) K)
+  pub figure-steps : {f : Figure} → figure (regsOf b) (b .code) ≡ f → Stepping b f
+  figure-steps e = record { sound = sound; steps = steps; draws = e }
+
+  -- by its kind
+  by-kind : {K : Kind} → kind (b .code) ≡ K → Stepping b (figureBy (regsOf b) (b .code) K)
   unfolding figure
-  by-kind e l = record { sound = sound; steps = steps; upright = rw (e, l); draws = ap (figureBy (regsOf b) (b .code)) e }
+  by-kind e = figure-steps (ap (figureBy (regsOf b) (b .code)) e)
 
   -- a vector, its line at hand
   pub vector-steps : kind (b .code) ≡ Vector → {l : Line} → l ≡ lineOf (b .code) (b .deltax) (b .deltay)
       → Stepping b (Stroke (b .ctrl2) l)
   unfolding figureBy
-  vector-steps e el = rw el (by-kind e refl)
+  vector-steps e el = rw el (by-kind e)
 
   -- 0F, one cycle without a dot
   pub pause-steps : kind (b .code) ≡ OneCycle → Stepping b Pause
   unfolding figureBy
-  pause-steps e = by-kind e refl
-
-  -- a character or block while tilt is low
-  pub letter-steps : tilted (regsOf b) ≡ false → {f : Figure} → figure (regsOf b) (b .code) ≡ f → Stepping b f
-  letter-steps t e = record { sound = sound; steps = steps; upright = rw t (and-false (lettering (kind (b .code)))); draws = e }
+  pause-steps e = by-kind e
 
   -- a command without write cycles has none left
   pub nothing-refused : (n : ℕ) (pic tab : List ℕ) → kind (b .code) ≡ NoCycle
       → Grants b n pic tab (refusal 1 b) pic
   unfolding figureBy cyclesOf
   nothing-refused n pic tab e =
-      step-refused (by-kind e refl) pic tab {m = 0} refl n (rw (le-leb 0 (b .done) (omega arith))) (λ z. omega arith)
-
-  -- a character or block does not run while tilt is high
-  pub tilted-refused : (n : ℕ) (pic tab : List ℕ) → lettering (kind (b .code)) ≡ true → tilted (regsOf b) ≡ true
-      → Grants b n pic tab (refusal 1 b) pic
-  unfolding badStep lowest
-  tilted-refused n pic tab l t =
-      grant-refused b n pic tab
-      (rw (steps-flawed b sound steps, l, t, or-true (leb (cycles (regsOf b) (b .code)) (b .done)))) (λ z. omega arith)
+      step-refused (by-kind e) pic tab {m = 0} refl n (rw (le-leb 0 (b .done) (omega arith))) (λ z. omega arith)
 
 -- every character but 0A and 0B has its glyph in a table of 480 bytes
 pub has-table : (c : ℕ) (tab : List ℕ) → c < 256 → lettering (kind c) ≡ true → length tab ≡ 480 → HasTable c tab

@@ -16,7 +16,7 @@ use Rattle.rules.specs.Figure.{tables}
 use Rattle.rules.specs.Cycles.{lights, used, dots, after}
 use Rattle.rules.specs.Commands.{afterWrite}
 use Rattle.rules.specs.Blanking.{afterVb, pictureVb, afterEdge}
-use Rattle.rules.specs.Refusals.{bad, wrongPicture, wrongTable, noRegister, readOnly, busy, tiltedCharacter, offScreen, writeNumber, readNumber, grantNumber, vbNumber, edgeNumber, addressNumber}
+use Rattle.rules.specs.Refusals.{bad, wrongPicture, wrongTable, noRegister, readOnly, busy, offScreen, writeNumber, readNumber, grantNumber, vbNumber, edgeNumber, addressNumber}
 use Rattle.rules.specs.Calls.{answer, Memory, memory, Outcome, outcome, written, readOut, granted, blanked, struck, noOutputs, located}
 use Rattle.gdp.specs.declared.state.Gdp.{Gdp}
 use Rattle.gdp.specs.declared.state.Answer.{Answer}
@@ -56,7 +56,7 @@ answer-told b cs v next =
 
 -- so with each call that is lent nothing
 pub write-told : (b : Gdp) (a v : ℕ) → answerOf b (written (stateOf b) a v)
-    ≡ told b (lowest ((1, flawed b) ∷ (4, noRegister a) ∷ (5, readOnly a) ∷ (6, busy (stateOf b)) ∷ (7, tiltedCharacter (stateOf b) a v) ∷ []))
+    ≡ told b (lowest ((1, flawed b) ∷ (4, noRegister a) ∷ (5, readOnly a) ∷ (6, busy (stateOf b)) ∷ []))
     0 (afterWrite (stateOf b) a v)
 unfolding written writeNumber
 write-told b a v = answer-told b _ 0 (afterWrite (stateOf b) a v)

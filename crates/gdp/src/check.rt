@@ -1,9 +1,9 @@
 // Refusal 1, which every call gives: bytes that stand for no state, or for one that the processor cannot be in.
 ghost use mathlib.Core.Path.{_≡_};
-ghost use mathlib.Core.Bool.{true, _&&_};
+ghost use mathlib.Core.Bool.{true};
 ghost use lib.Dec.{eqb};
 ghost use Rattle.parts.specs.Command.{kind, lettering};
-ghost use Rattle.rules.specs.Figure.{tilted, cycles};
+ghost use Rattle.rules.specs.Figure.{cycles};
 ghost use Rattle.rules.specs.Refusals.{badRegs, busy};
 ghost use Rattle.gdp.specs.Flat.{workIn, regsOf, stateOf};
 ghost use Rattle.gdp.specs.Calls.{flawed};
@@ -43,13 +43,6 @@ impl Gdp {
         is_stray_work(self.modes, is_vb_high(self.signals))
     }
 
-    // A character command while tilt is high.
-    pub(crate) fn is_tilted_letter(self, code: u8) -> bool
-        ensures { λ r. ⌜ r ≡ (lettering (kind code) && tilted (regsOf self)) ⌝ }
-    {
-        is_letter(code) & bit_at(self.ctrl2, 2)
-    }
-
     // The cycles of a character, 48 for each P times Q, or of the block 0B, 16 for each.
     fn letter_cycles(self) -> u16
         ensures { λ r. ⌜ (lettering (kind (self .code)) ≡ true → r ≡ cycles (regsOf self) (self .code)) ⌝ }
@@ -67,13 +60,12 @@ impl Gdp {
         work_number(self.modes) == STEPS
     }
 
-    // A stepping command that cannot have come so far, or not with tilt high. Short, so that it is compiled into its callers
-    // and costs them no call.
+    // A stepping command that cannot have come so far. Short, so that it is compiled into its callers and costs them no call.
     pub(crate) fn is_bad_step(self) -> bool
         ensures { λ r. ⌜ r ≡ badStep (regsOf self) (self .code) (self .done) ⌝ }
     {
         if is_letter(self.code) {
-            return bit_at(self.ctrl2, 2) | (self.letter_cycles() <= self.done);
+            return self.letter_cycles() <= self.done;
         }
         if is_line(self.code) {
             let l = line_of(self.code, self.deltax, self.deltay);

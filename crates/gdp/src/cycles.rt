@@ -12,7 +12,7 @@ ghost use Rattle.parts.specs.Command.{kind, lettering};
 ghost use Rattle.drawing.specs.Figure.{Cells};
 ghost use Rattle.drawing.specs.Run.{Ran};
 ghost use Rattle.drawing.specs.Working.Cycle.{Granted};
-ghost use Rattle.rules.specs.Figure.{turned, tables, glyph, figure};
+ghost use Rattle.rules.specs.Figure.{lie, tables, glyph, figure};
 ghost use Rattle.rules.specs.Cycles.{tip};
 ghost use Rattle.gdp.specs.Flat.{workIn, formatOf, regsOf, stateOf, named};
 ghost use Rattle.gdp.specs.Calls.{Grants};
@@ -30,6 +30,7 @@ use drawing::strokes::draw_vector;
 use drawing::tip::Run;
 use drawing::tip::Tip;
 use motion::character::Body;
+use motion::character::Lie;
 use motion::character::block_of;
 use motion::character::character_of;
 use motion::glyph::glyph;
@@ -108,31 +109,38 @@ impl Gdp {
         accepted(used, self.stepping())
     }
 
+    // How characters and blocks lie.
+    fn lie(self) -> Lie
+        ensures { λ r. ⌜ r ≡ lie (regsOf self) ⌝ }
+    {
+        Lie {
+            turned: bit_at(self.ctrl2, 3),
+            tilted: bit_at(self.ctrl2, 2),
+        }
+    }
+
     // A run of a character or block: its generator is handed the part of the table that is its glyph; 0A and 0B have every dot.
     fn draw_letter<'a>(self, b: Body, used: u16, pic: &mut [u8], table: &'a [u8]) -> Spot
         requires { ⌜ Screen (tip (formatOf self) (regsOf self) .window) (length (now pic)) ⌝ }
-        requires { ⌜ Sized b × (bodyCycles b ≤ 20000) × HasTable (self .code) (now table) × Granted (Cells (turned (regsOf self)) b) (runOf self used) ⌝ }
-        ensures { λ s. ⌜ Ran (tip (formatOf self) (regsOf self)) (Cells (turned (regsOf self)) b) (glyph (tables (now (table .entry))) (self .code)) (runOf self used) s (now (pic .entry)) (now (pic .exit)) ⌝ }
+        requires { ⌜ Sized b × (bodyCycles b ≤ 20000) × HasTable (self .code) (now table) × Granted (Cells (lie (regsOf self)) b) (runOf self used) ⌝ }
+        ensures { λ s. ⌜ Ran (tip (formatOf self) (regsOf self)) (Cells (lie (regsOf self)) b) (glyph (tables (now (table .entry))) (self .code)) (runOf self used) s (now (pic .entry)) (now (pic .exit)) ⌝ }
     {
         let t = self.tip();
-        let turned = bit_at(self.ctrl2, 3);
+        let lie = self.lie();
         let run = self.run(used);
         if (self.code == 0x0A) | (self.code == 0x0B) {
             let solid = solid_glyph();
-            return draw_body(pic, t, turned, b, &solid, run);
+            return draw_body(pic, t, lie, b, &solid, run);
         }
-        draw_body(pic, t, turned, b, glyph(table, self.code), run)
+        draw_body(pic, t, lie, b, glyph(table, self.code), run)
     }
 
     // A running character or block.
     fn grant_body(self, b: Body, n: u16, pic: &mut [u8], table: &[u8]) -> Answer
         requires { ⌜ (stray self ≡ false) × (workIn (self .modes) ≡ 1) × (lettering (kind (self .code)) ≡ true) ⌝ }
-        requires { ⌜ (figure (regsOf self) (self .code) ≡ Cells (turned (regsOf self)) b) × Sized b × (bodyCycles b ≤ 12288) ⌝ }
+        requires { ⌜ (figure (regsOf self) (self .code) ≡ Cells (lie (regsOf self)) b) × Sized b × (bodyCycles b ≤ 12288) ⌝ }
         ensures { λ r. ⌜ Grants self n (now (pic .entry)) (now (table .entry)) r (now (pic .exit)) ⌝ }
     {
-        if bit_at(self.ctrl2, 2) {
-            return refused(1, self);
-        }
         let cycles = b.columns * b.rows;
         let number = self.step_number(cycles, pic.len(), table.len());
         if number != 0 {

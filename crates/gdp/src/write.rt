@@ -70,7 +70,7 @@ impl Gdp {
         }
     }
 
-    // Writes a byte to the register at an address; at 0 it is a command. Refused with 1, 4, 5, 6 or 7.
+    // Writes a byte to the register at an address; at 0 it is a command. Refused with 1, 4, 5 or 6.
     pub fn write(self, address: u8, value: u8) -> Answer
         ensures { λ r. ⌜ r ≡ answerOf self (written (stateOf self) address value) ⌝ }
     {
@@ -92,9 +92,6 @@ impl Gdp {
         }
         if address != 0x0 {
             return accepted(0, self.idle().stored(address, value));
-        }
-        if self.is_tilted_letter(value) {
-            return refused(7, self);
         }
         accepted(0, self.idle().begun(value))
     }

@@ -16,7 +16,7 @@ use Rattle.rules.specs.Sequence.{ready}
 use Rattle.rules.specs.State.{Regs, State, regs, flags, state, withCtrl1, withLpck, withRegs, withFlags, readyRaises}
 use Rattle.rules.specs.Registers.{stored}
 use Rattle.rules.specs.Commands.{commanded, clearing, prompt, begun, afterWrite}
-use Rattle.rules.specs.Refusals.{bad, busy, tiltedCharacter, noRegister, readOnly, writeNumber}
+use Rattle.rules.specs.Refusals.{bad, busy, noRegister, readOnly, writeNumber}
 use Rattle.rules.specs.Calls.{answer, written}
 use Rattle.rules.specs.Card.{Card, W, outcomeOf, next, played}
 use Rattle.rules.specs.Working.Good.{GoodRegs}
@@ -52,7 +52,7 @@ module _ (c : Card) (calm : Calm (c .state)) where
 
   send : (a v : ℕ) → (noRegister a || readOnly a || eqb a 0x0) ≡ false → {r : Regs} {d : Card}
       → Holds c r d → GoodRegs (stored r a v) → Holds c (stored r a v) (next d (W a v))
-  unfolding next outcomeOf written answer writeNumber lowest busy tiltedCharacter afterWrite
+  unfolding next outcomeOf written answer writeNumber lowest busy afterWrite
   send a v f {r} {d} h g =
       let k = or-parts (noRegister a || readOnly a) (eqb a 0x0) f in
       let l = or-parts (noRegister a) (readOnly a) (k .0) in
@@ -141,7 +141,7 @@ module _ (c : Card) (calm : Calm (c .state)) where
   -- command 01 makes it low too, and ready rises
   erases : (r : Regs) {d : Card} → Holds c r d
       → next d (W 0x0 0x01) ≡ withState (readyRaises (withRegs (relit false r) (c .state))) c
-  unfolding next outcomeOf written answer writeNumber lowest busy noRegister readOnly tiltedCharacter afterWrite begun kind commanded prompt clearing
+  unfolding next outcomeOf written answer writeNumber lowest busy noRegister readOnly afterWrite begun kind commanded prompt clearing
   erases r h = rw (h .card, holds-good r (h .good), ap ready (calm .idle))
 
   -- where CTRL1 is that of s, its bit 6 says whether

@@ -85,7 +85,7 @@ accepted-kept s e =
 refused-or-kept : (s : State) (it : Item) → clears (s .work) ≡ false → Kept s (taking s it)
 unfolding taking written answer
 refused-or-kept s it e =
-    cond-case (Kept s) (eqb (writeNumber s (address it) (value it)) 0) (λ _. accepted-kept s e it) (λ _. keeps refl refl e)
+    cond-case (Kept s) (eqb (writeNumber s (address it)) 0) (λ _. accepted-kept s e it) (λ _. keeps refl refl e)
 
 -- and so do the cycles of its command
 after-work : (s : State) (n : ℕ) (w : Work) → clears (s .work) ≡ false → Kept s (afterOf s n w)

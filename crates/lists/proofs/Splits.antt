@@ -84,7 +84,7 @@ onward s t n =
 -- a good state with no cycle left is still
 none-left : (s : State) (w : Work) → s .work ≡ w → GoodWork (s .regs) (s .vb) w → left s ≤ 0 → Still s
 none-left s Idle e g h = idle-still s e
-none-left s (Steps c p) e g h = absurd (omega (arith, left-steps s c p e, g .left))
+none-left s (Steps c p) e g h = absurd (omega (arith, left-steps s c p e, g))
 none-left s (Clear f o) e g h = clear-still s f o e
 
 -- a state that no call refuses with 1 is granted cycles, with memories of the right lengths

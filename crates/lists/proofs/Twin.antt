@@ -19,10 +19,10 @@ use Rattle.drawing.specs.Run.{startOf, restOf, mark, dotOf, dotsFrom}
 use Rattle.rules.specs.Sequence.{Work, Idle, Steps, Clear, LightPen, Off, ready, lightPenOpen}
 use Rattle.rules.specs.State.{Regs, Flags, State, regs, flags, state, withCtrl1, withPlace, withLpck, withRegs, withWork, withFlags, readyRaises}
 use Rattle.rules.specs.Registers.{stored}
-use Rattle.rules.specs.Figure.{Tables, tilted, figure, cycles, glyph}
+use Rattle.rules.specs.Figure.{Tables, figure, cycles, glyph}
 use Rattle.rules.specs.Cycles.{penDown, lights, cyclic, tip, here, start, leftOf, left, dotsOf, dots, rested, afterOf, after}
 use Rattle.rules.specs.Commands.{commanded, clearing, prompt, begun, afterWrite}
-use Rattle.rules.specs.Refusals.{bad, busy, tiltedCharacter, writeNumber}
+use Rattle.rules.specs.Refusals.{bad, busy, writeNumber}
 use Rattle.rules.specs.Calls.{answer, written}
 use Rattle.rules.specs.Working.Good.{GoodRegs}
 use Rattle.rules.proofs.Laws.{figure-kept, good-from, good-to, commanded-good, ready-work}
@@ -159,16 +159,16 @@ module _ (k : Side) (h : GoodSide k) where
       record { good = good-to (twin k s) (record { regs = r; work = w; lightPen = h .lightPen }); idle = c .idle }
 
   -- an item is refused in both or in neither
-  twin-number : (s : State) (a v : ℕ) → Calm s → writeNumber (twin k s) a v ≡ writeNumber s a v
-  unfolding writeNumber busy tiltedCharacter tilted
-  twin-number s a v c = rw (twin-calm c .good, c .good)
+  twin-number : (s : State) (a : ℕ) → Calm s → writeNumber (twin k s) a ≡ writeNumber s a
+  unfolding writeNumber busy
+  twin-number s a c = rw (twin-calm c .good, c .good)
 
   pub twin-taking : (s : State) (it : Item) → Calm s → taking (twin k s) it ≡ twin k (taking s it)
   unfolding taking written answer
   twin-taking s it c =
-      let n = twin-number s (address it) (value it) c in
+      let n = twin-number s (address it) c in
       (λ j. cond (eqb (n j) 0) (twin-accepted k s it j) (twin k s))
-      ∙ cond-ap (twin k) (eqb (writeNumber s (address it) (value it)) 0) (afterWrite s (address it) (value it)) s
+      ∙ cond-ap (twin k) (eqb (writeNumber s (address it)) 0) (afterWrite s (address it) (value it)) s
 
   -- so does an item run to its end
   twin-done : (s : State) (it : Item) → Calm s → done (twin k s) it ≡ twin k (done s it)

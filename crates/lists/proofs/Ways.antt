@@ -168,7 +168,7 @@ write-unclear : (s : State) (a v : ℕ) → (eqb a 0x0 && clearing v) ≡ false 
     → Unclear ((written s a v) .state)
 unfolding written answer afterWrite begun prompt readyRaises
 write-unclear s a v h e =
-    cond-case Unclear (eqb (writeNumber s a v) 0)
+    cond-case Unclear (eqb (writeNumber s a) 0)
     (λ _. cond-case Unclear (eqb a 0x0)
     (λ z. cond-case Unclear (prompting (kind v))
     (λ _. cond-case Unclear (clearing v) (λ y. let begins : (eqb a 0x0 && clearing v) ≡ true = rw (z, y) in absurd (true≢false (sym begins ∙ h)))

@@ -1,17 +1,18 @@
 -- The laws of a cell: its counters go up with its cycle, and its place with them.
 -- Assumes nothing.
 use mathlib.Core.Path.{_≡_, ap, _∙_}
-use mathlib.Core.Bool.{Bool, true, false, cond}
 use Prim.Native.Nat.{ℕ, _+_, _*_, _/_, _%_, _≤_, _<_}
 use native.Mathlib.Nat.{add-mul, one-mul}
 use native.Mathlib.Omega.{arith}
-use Rattle.motion.specs.Position.{ahead, behind}
-use Rattle.motion.specs.Character.{uOf, vOf, columnOf, rowOf}
+use Rattle.motion.specs.Position.{moved, movedBack}
+use Rattle.motion.specs.Character.{uOf, vOf, columnOf, rowOf, laid, bodyWay}
 use Rattle.motion.specs.Working.Cells.{Sized, Counts, OnPlace}
+use Rattle.motion.specs.declared.position.Spot.{Spot}
 use Rattle.motion.specs.declared.character.Body.{Body}
+use Rattle.motion.specs.declared.character.Lie.{Lie}
 use Rattle.motion.specs.declared.character.Cell.{Cell}
 use Rattle.motion.proofs.Counting.{Splits, splits, whole, split-le}
-use Rattle.motion.proofs.Characters.{split-cycle, v-lt, x-at, y-at, rise-x, rise-y, carry-x, carry-y}
+use Rattle.motion.proofs.Characters.{split-cycle, v-lt, way-at, laid-on, rise-way, carry-way}
 
 -- the counters are the quotients and remainders of i, v and u
 module _ {b : Body} {c : Cell} where
@@ -49,27 +50,17 @@ module _ {b : Body} {c : Cell} where
         let u = split-le split-u in
         (omega arith, omega arith, omega arith, omega arith, omega arith)
 
--- where c stood on its place, a cell one cycle further stands on its own
-module _ {turned : Bool} {b : Body} {c r : Cell} (s : Sized b) (g : Counts b c) (next : r .i ≡ c .i + 1) where
-  pub on-risen : c .v + 1 < b .rows
-      → (r .x ≡ cond turned (behind (c .x) 1) (c .x)) × (r .y ≡ cond turned (c .y) (ahead (c .y) 1))
-      → (x y : ℕ) → OnPlace turned b x y c → OnPlace turned b x y r
-  on-risen h to x y on =
-      let up : vOf b (c .i) + 1 < b .rows = rw (g .v) at h in
-      record {
-        x = rw (next, to .0, on .x) (rise-x b s turned (c .i) x up);
-        y = rw (next, to .1, on .y) (rise-y b s turned (c .i) y up);
-      }
+-- where c stands on its place, the next cycle's is one step further
+module _ (lie : Lie) {b : Body} {c : Cell} {to : Spot} {i : ℕ} (s : Sized b) (g : Counts b c) (next : i ≡ c .i + 1) where
+  pub on-risen : c .v + 1 < b .rows → to ≡ moved (c .at) (laid lie 0 1)
+      → (start : Spot) → OnPlace lie b start c → to ≡ moved start (bodyWay lie b i)
+  on-risen h up start on =
+      rw (next, up, on) (rise-way b s lie (c .i) start (rw (g .v) at h))
 
-  pub on-carried : b .rows ≤ c .v + 1
-      → (r .x ≡ cond turned (ahead (c .x) (c .v)) (ahead (c .x) 1)) × (r .y ≡ cond turned (ahead (c .y) 1) (behind (c .y) (c .v)))
-      → (x y : ℕ) → OnPlace turned b x y c → OnPlace turned b x y r
-  on-carried h to x y on =
-      let over : b .rows ≤ vOf b (c .i) + 1 = rw (g .v) at h in
-      record {
-        x = rw (next, to .0, on .x, g .v) (carry-x b s turned (c .i) x over);
-        y = rw (next, to .1, on .y, g .v) (carry-y b s turned (c .i) y over);
-      }
+  pub on-carried : b .rows ≤ c .v + 1 → to ≡ movedBack (moved (c .at) (laid lie 1 0)) (laid lie 0 (c .v))
+      → (start : Spot) → OnPlace lie b start c → to ≡ moved start (bodyWay lie b i)
+  on-carried h over start on =
+      rw (next, over, on, g .v) (carry-way b s lie (c .i) start (rw (g .v) at h))
 
 -- at the first cycle of a column of the glyph, P columns of dots further is the first cycle of the next
 module _ {b : Body} {c : Cell} (s : Sized b) (g : Counts b c) (foot : c .v ≡ 0) where
@@ -83,16 +74,8 @@ module _ {b : Body} {c : Cell} (s : Sized b) (g : Counts b c) (foot : c .v ≡ 0
       let at = whole (split-u g) in
       splits (c .column + 1) (s .p0) (simp (add-mul, one-mul) (omega arith))
 
-  pub on-passed : (turned : Bool) {r : Cell} → r .i ≡ c .i + b .p * b .rows
-      → (r .x ≡ cond turned (c .x) (ahead (c .x) (b .p))) × (r .y ≡ cond turned (ahead (c .y) (b .p)) (c .y))
-      → (x y : ℕ) → OnPlace turned b x y c → OnPlace turned b x y r
-  on-passed true next to x y on =
-      record {
-        x = rw (next, to .0, on .x, x-at true b split-past, x-at true b (split-i g), foot);
-        y = rw (next, to .1, on .y, y-at true b split-past, y-at true b (split-i g)) (omega arith);
-      }
-  on-passed false next to x y on =
-      record {
-        x = rw (next, to .0, on .x, x-at false b split-past, x-at false b (split-i g)) (omega arith);
-        y = rw (next, to .1, on .y, y-at false b split-past, y-at false b (split-i g), foot);
-      }
+  pub on-passed : (lie : Lie) {to : Spot} {i : ℕ} → i ≡ c .i + b .p * b .rows → to ≡ moved (c .at) (laid lie (b .p) 0)
+      → (start : Spot) → OnPlace lie b start c → to ≡ moved start (bodyWay lie b i)
+  on-passed lie next passed start on =
+      rw (next, passed, on, way-at lie b split-past, way-at lie b (split-i g), foot)
+      (laid-on lie start (uOf b (c .i)) 0 (b .p) 0 (omega arith))

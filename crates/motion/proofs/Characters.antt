@@ -2,19 +2,22 @@
 -- cycle, how the place steps from cycle to cycle, and where it is at the end. Once for every body.
 -- Assumes nothing.
 use mathlib.Core.Path.{_≡_, refl, sym, _∙_}
-use mathlib.Core.Bool.{Bool, true, false, cond}
+use mathlib.Core.Bool.{Bool, true, false}
 use mathlib.Core.Logic.{⊎-elim}
 use Prim.Native.Nat.{ℕ, _+_, _*_, _≤_, _<_}
-use native.Mathlib.Nat.{mul-mul-mul-comm, mul-assoc, mul-le-mul, mod-lt, div-lt-iff-lt-mul, add-zero, le-refl, lt-of-lt-of-le}
+use native.Mathlib.Nat.{mul-mul-mul-comm, mul-assoc, mul-le-mul, mod-lt, div-lt-iff-lt-mul, add-zero, zero-add, le-refl, lt-of-lt-of-le}
 use native.Mathlib.Omega.{arith}
 use lib.Arith.{digits-lt, digits-div, digits-mod}
 use lib.Dec.{eqb}
 use borrow.Author.Tests.{eqb-false}
 use Rattle.basis.proofs.Cases.{split}
-use Rattle.motion.specs.Position.{ahead, behind, signed}
-use Rattle.motion.specs.Character.{scale, scaleP, scaleQ, characterOf, blockOf, bodyCycles, uOf, vOf, columnOf, rowOf, bodyX, bodyY, bodyEndX, bodyEndY}
+use Rattle.motion.specs.Position.{moved, movedBack}
+use Rattle.motion.specs.Character.{scale, scaleP, scaleQ, characterOf, blockOf, bodyCycles, uOf, vOf, columnOf, rowOf, lying, along, laid, bodyWay, bodyEnd}
 use Rattle.motion.specs.Working.Cells.{Sized}
+use Rattle.motion.specs.declared.position.Spot.{Spot}
 use Rattle.motion.specs.declared.character.Body.{Body}
+use Rattle.motion.specs.declared.character.Lie.{Lie}
+use Rattle.motion.proofs.Positions.{ahead-range, ahead-sum, same-spot, on-and-back}
 use Rattle.motion.proofs.Counting.{Splits, splits, whole, split-within, split-over}
 
 -- 0 means 16, so what is scaled is above 0, and of four bits at most 16: P and Q are 1 to 16
@@ -141,17 +144,39 @@ module _ (csize : ℕ) (h : csize < 256) (i : ℕ) where
   unfolding blockOf
   block-row = row-lt (blockOf csize) (block-sized csize h) 4 i (le-refl (4 * scaleQ csize))
 
--- the place of a cycle from its u and v
-module _ (turned : Bool) (b : Body) {i u v : ℕ} (p : Splits i (b .rows) u v) where
-  pub x-at : bodyX turned b i ≡ cond turned (signed true v) u
-  unfolding bodyX uOf vOf
-  x-at = rw (p .quotient, p .rest)
+-- the way to a cycle from its u and v
+pub way-at : (lie : Lie) (b : Body) {i u v : ℕ} → Splits i (b .rows) u v → bodyWay lie b i ≡ laid lie u v
+unfolding bodyWay uOf vOf
+way-at lie b p = rw (p .quotient, p .rest)
 
-  pub y-at : bodyY turned b i ≡ cond turned u v
-  unfolding bodyY uOf vOf
-  y-at = rw (p .quotient, p .rest)
+-- what holds of the four ways that letters lie holds of each
+four : (A : Lie → Type 0) → A (lying false false) → A (lying false true) → A (lying true false) → A (lying true true) → (lie : Lie) → A lie
+four A straight slanted standing slantedUp lie = go (lie .turned) (lie .tilted)
+  where
+    go : (turned tilted : Bool) → A (lying turned tilted)
+    go false false = straight
+    go false true = slanted
+    go true false = standing
+    go true true = slantedUp
 
-module _ (b : Body) (s : Sized b) where
+-- the ways to dots add up: (u, v) and then (m, n) is (u + m, v + n)
+module _ (lie : Lie) (start : Spot) (u v m n : ℕ) (h : v + n ≤ 4096) where
+  pub laid-on : moved (moved start (laid lie u v)) (laid lie m n) ≡ moved start (laid lie (u + m) (v + n))
+  unfolding moved laid along
+  laid-on =
+      four (λ l. moved (moved start (laid l u v)) (laid l m n) ≡ moved start (laid l (u + m) (v + n)))
+      (same-spot (ahead-sum _ _ _ _ (omega arith)) (ahead-sum _ _ _ _ (omega arith)))
+      (same-spot (ahead-sum _ _ _ _ (omega arith)) (ahead-sum _ _ _ _ (omega arith)))
+      (same-spot (ahead-sum _ _ _ _ (omega arith)) (ahead-sum _ _ _ _ (omega arith)))
+      (same-spot (ahead-sum _ _ _ _ (omega arith)) (ahead-sum _ _ _ _ (omega arith)))
+      lie
+
+  -- and (m, n) can be taken back again
+  pub laid-back : movedBack (moved start (laid lie (u + m) (v + n))) (laid lie m n) ≡ moved start (laid lie u v)
+  unfolding moved
+  laid-back = rw (← laid-on) (on-and-back (moved start (laid lie u v)) (laid lie m n) (ahead-range _ _) (ahead-range _ _))
+
+module _ (b : Body) (s : Sized b) (lie : Lie) where
   -- within a column v is one more; at its top u is one more, and v starts again
   module _ (i : ℕ) where
     pub rise : vOf b i + 1 < b .rows → Splits (i + 1) (b .rows) (uOf b i) (vOf b i + 1)
@@ -161,31 +186,22 @@ module _ (b : Body) (s : Sized b) where
     carry = split-over (split-cycle b i) (s .rows0)
 
     v-most : vOf b i < 128
-    v-most = omega (arith, v-lt b s i)
+    v-most = omega (arith, v-lt b s i, s .rows128)
 
-  -- so within a column the place goes one up; turned, one to the left
-  pub rise-x : (turned : Bool) (i x : ℕ) → vOf b i + 1 < b .rows
-      → cond turned (behind (ahead x (bodyX turned b i)) 1) (ahead x (bodyX turned b i)) ≡ ahead x (bodyX turned b (i + 1))
-  rise-x true i x h = rw (x-at true b (rise i h), x-at true b (split-cycle b i)) (omega (arith, v-most i))
-  rise-x false i x h = rw (x-at false b (rise i h), x-at false b (split-cycle b i))
+    -- so within a column the place goes one dot up
+    pub rise-way : (start : Spot) → vOf b i + 1 < b .rows
+        → moved (moved start (bodyWay lie b i)) (laid lie 0 1) ≡ moved start (bodyWay lie b (i + 1))
+    rise-way start h =
+        rw (way-at lie b (rise h), way-at lie b (split-cycle b i))
+        (rw add-zero at (laid-on lie start (uOf b i) (vOf b i) 0 1 (omega (arith, v-most))))
 
-  pub rise-y : (turned : Bool) (i y : ℕ) → vOf b i + 1 < b .rows
-      → cond turned (ahead y (bodyY turned b i)) (ahead (ahead y (bodyY turned b i)) 1) ≡ ahead y (bodyY turned b (i + 1))
-  rise-y true i y h = rw (y-at true b (rise i h), y-at true b (split-cycle b i))
-  rise-y false i y h = rw (y-at false b (rise i h), y-at false b (split-cycle b i)) (omega arith)
-
-  -- and at its top it goes back by v and one to the right; turned, one up
-  pub carry-x : (turned : Bool) (i x : ℕ) → b .rows ≤ vOf b i + 1
-      → cond turned (ahead (ahead x (bodyX turned b i)) (vOf b i)) (ahead (ahead x (bodyX turned b i)) 1)
-      ≡ ahead x (bodyX turned b (i + 1))
-  carry-x true i x h = rw (x-at true b (carry i h), x-at true b (split-cycle b i)) (omega (arith, v-most i))
-  carry-x false i x h = rw (x-at false b (carry i h), x-at false b (split-cycle b i)) (omega arith)
-
-  pub carry-y : (turned : Bool) (i y : ℕ) → b .rows ≤ vOf b i + 1
-      → cond turned (ahead (ahead y (bodyY turned b i)) 1) (behind (ahead y (bodyY turned b i)) (vOf b i))
-      ≡ ahead y (bodyY turned b (i + 1))
-  carry-y true i y h = rw (y-at true b (carry i h), y-at true b (split-cycle b i)) (omega arith)
-  carry-y false i y h = rw (y-at false b (carry i h), y-at false b (split-cycle b i)) (omega (arith, v-most i))
+    -- and at its top it goes one along and back by v
+    pub carry-way : (start : Spot) → b .rows ≤ vOf b i + 1
+        → movedBack (moved (moved start (bodyWay lie b i)) (laid lie 1 0)) (laid lie 0 (vOf b i)) ≡ moved start (bodyWay lie b (i + 1))
+    carry-way start h =
+        let one = laid-on lie start (uOf b i) (vOf b i) 1 0 (omega (arith, v-most)) in
+        let back = laid-back lie start (uOf b i + 1) 0 0 (vOf b i) (omega (arith, v-most)) in
+        rw (way-at lie b (carry h), way-at lie b (split-cycle b i), one, add-zero) (rw (add-zero, zero-add) at back)
 
   -- one past the last cycle is the foot of the column after the last
   end-split : Splits (bodyCycles b) (b .rows) (b .columns) 0
@@ -193,12 +209,13 @@ module _ (b : Body) (s : Sized b) where
   end-split = splits (b .columns) (s .rows0) (sym (add-zero (b .columns * b .rows)))
 
   -- there X has grown by the columns and Y is restored; turned, Y has grown and X is restored
-  pub end-x : (turned : Bool) (x : ℕ) → ahead x (bodyX turned b (bodyCycles b)) ≡ ahead x (bodyEndX turned b)
-  unfolding bodyEndX
-  end-x true x = rw (x-at true b end-split) (omega arith)
-  end-x false x = rw (x-at false b end-split)
-
-  pub end-y : (turned : Bool) (y : ℕ) → ahead y (bodyY turned b (bodyCycles b)) ≡ ahead y (bodyEndY turned b)
-  unfolding bodyEndY
-  end-y true y = rw (y-at true b end-split)
-  end-y false y = rw (y-at false b end-split)
+  pub end-way : (start : Spot) → moved start (bodyWay lie b (bodyCycles b)) ≡ moved start (bodyEnd lie b)
+  unfolding bodyEnd moved laid along
+  end-way start =
+      rw (way-at lie b end-split)
+      (four (λ l. moved start (laid l (b .columns) 0) ≡ moved start (bodyEnd l b))
+      (same-spot (omega arith) (omega arith))
+      (same-spot (omega arith) (omega arith))
+      (same-spot (omega arith) (omega arith))
+      (same-spot (omega arith) (omega arith))
+      lie)

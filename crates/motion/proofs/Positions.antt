@@ -5,7 +5,8 @@ use mathlib.Core.Bool.{Bool, true, false}
 use Prim.Native.Nat.{ℕ, _+_, _-_, _%_, _<_, _≤_}
 use native.Mathlib.Nat.{add-comm}
 use native.Mathlib.Omega.{arith}
-use Rattle.motion.specs.Position.{ahead, behind, signed}
+use Rattle.motion.specs.declared.position.Spot.{Spot}
+use Rattle.motion.specs.Position.{ahead, behind, signed, spot, moved, movedBack}
 
 -- a position moved on is one of 12 bits
 pub ahead-range : (p n : ℕ) → ahead p n < 4096
@@ -26,6 +27,10 @@ behind-zero p h = omega arith
 -- two moves on are one move by the sum
 pub ahead-ahead : (p m n : ℕ) → ahead (ahead p m) n ≡ ahead p (m + n)
 ahead-ahead p m n = omega arith
+
+-- and by any other number that is as much modulo 4,096
+pub ahead-sum : (p m n k : ℕ) → (m + n) % 4096 ≡ k % 4096 → ahead (ahead p m) n ≡ ahead p k
+ahead-sum p m n k e = ahead-ahead p m n ∙ omega arith
 
 -- a move back undoes a move on
 pub behind-ahead : (p n : ℕ) → p < 4096 → behind (ahead p n) n ≡ p
@@ -70,3 +75,17 @@ pub signed-more : (back : Bool) (p m n : ℕ) → m + n ≤ 4096
     → ahead (ahead p (signed back m)) (signed back n) ≡ ahead p (signed back (m + n))
 signed-more true p m n h = omega arith
 signed-more false p m n h = ahead-ahead p m n
+
+-- a place is its two numbers
+pub same-spot : {s t : Spot} → s .x ≡ t .x → s .y ≡ t .y → s ≡ t
+same-spot ex ey = λ j. spot (ex j) (ey j)
+
+-- moved back and on again, a place is the same
+pub back-and-on : (at way : Spot) → at .x < 4096 → at .y < 4096 → at ≡ moved (movedBack at way) way
+unfolding moved movedBack
+back-and-on at way hx hy = same-spot (sym (ahead-behind (at .x) (way .x) hx)) (sym (ahead-behind (at .y) (way .y) hy))
+
+-- and so it is moved on and back again
+pub on-and-back : (at way : Spot) → at .x < 4096 → at .y < 4096 → movedBack (moved at way) way ≡ at
+unfolding moved movedBack
+on-and-back at way hx hy = same-spot (behind-ahead (at .x) (way .x) hx) (behind-ahead (at .y) (way .y) hy)

@@ -1,10 +1,12 @@
 -- How a character steps. i counts its cycles from 0: column u of dots, and within it row v.
 -- Assumes nothing.
-use Prim.Native.Nat.{ℕ, _*_, _/_, _%_}
+use Prim.Native.Nat.{ℕ, _+_, _*_, _/_, _%_}
 use mathlib.Core.Bool.{Bool, true, cond}
 use lib.Dec.{eqb}
+use Rattle.motion.specs.declared.position.Spot.{Spot}
 use Rattle.motion.specs.declared.character.Body.{Body}
-use Rattle.motion.specs.Position.{signed}
+use Rattle.motion.specs.declared.character.Lie.{Lie}
+use Rattle.motion.specs.Position.{signed, spot}
 
 -- CSIZE gives P (upper) and Q (lower), 0 meaning 16
 unfoldable pub scale : ℕ → ℕ
@@ -42,16 +44,23 @@ columnOf b i = uOf b i / b .p
 unfoldable pub rowOf : Body → ℕ → ℕ
 rowOf b i = vOf b i / b .q
 
--- from the start to the place of cycle i, as what is added modulo 4,096: (u, v); turned by CTRL2 bit 3, (−v, u)
-unfoldable pub bodyX : Bool → Body → ℕ → ℕ
-bodyX turned b i = cond turned (signed true (vOf b i)) (uOf b i)
+-- how the letters lie: turned, so that they run upwards, and tilted
+abbrev pub lying : Bool → Bool → Lie
+lying turned tilted = record { turned = turned; tilted = tilted }
 
-unfoldable pub bodyY : Bool → Body → ℕ → ℕ
-bodyY turned b i = cond turned (uOf b i) (vOf b i)
+-- how far dot (u, v) lies in the direction of writing: u; tilted, each dot up is one further
+unfoldable pub along : Lie → ℕ → ℕ → ℕ
+along lie u v = u + cond (lie .tilted) v 0
 
--- at the end X has grown by 6P (4P) and Y is restored; turned, Y grows and X is restored
-unfoldable pub bodyEndX : Bool → Body → ℕ
-bodyEndX turned b = cond turned 0 (b .columns)
+-- from the start to dot (u, v), as what is added modulo 4,096: (u, v) or, tilted, (u + v, v);
+-- turned, (−v, u) or, tilted, (−v, u + v)
+unfoldable pub laid : Lie → ℕ → ℕ → Spot
+laid lie u v = cond (lie .turned) (spot (signed true v) (along lie u v)) (spot (along lie u v) v)
 
-unfoldable pub bodyEndY : Bool → Body → ℕ
-bodyEndY turned b = cond turned (b .columns) 0
+-- from the start to the place of cycle i
+unfoldable pub bodyWay : Lie → Body → ℕ → Spot
+bodyWay lie b i = laid lie (uOf b i) (vOf b i)
+
+-- at the end X has grown by 6P (4P) and Y is restored; turned, Y grows and X is restored; tilted or not
+unfoldable pub bodyEnd : Lie → Body → Spot
+bodyEnd lie b = cond (lie .turned) (spot 0 (b .columns)) (spot (b .columns) 0)

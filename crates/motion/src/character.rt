@@ -1,13 +1,12 @@
 // How a character steps: by counters, so that no cycle costs a division.
 ghost use mathlib.Core.Path.{_≡_};
-ghost use mathlib.Core.Bool.{Bool, cond};
-ghost use Prim.Native.Nat.{ℕ, _+_, _*_, _≤_, _<_};
-ghost use Rattle.motion.specs.Position.{ahead, behind};
-ghost use Rattle.motion.specs.Character.{scale, characterOf, blockOf, bodyX, bodyY};
+ghost use Prim.Native.Nat.{_+_, _*_, _≤_, _<_};
+ghost use Rattle.motion.specs.Position.{moved, movedBack};
+ghost use Rattle.motion.specs.Character.{scale, characterOf, blockOf, along, laid, bodyWay};
 ghost use Rattle.motion.specs.Working.Cells.{Sized, Counts, OnPlace};
 use crate::position::Spot;
-use crate::position::backward;
-use crate::position::forward;
+use crate::position::moved;
+use crate::position::moved_back;
 
 // P and Q, and the columns and rows of dots that are stepped through.
 pub struct Body {
@@ -17,10 +16,15 @@ pub struct Body {
     pub rows: u16,
 }
 
+// How the letters lie: turned, so that they run upwards, and tilted.
+pub struct Lie {
+    pub turned: bool,
+    pub tilted: bool,
+}
+
 // The place of the next cycle, its number i, and its counters: v, v / Q, v mod Q, u / P, u mod P.
 pub struct Cell {
-    pub x: u16,
-    pub y: u16,
+    pub at: Spot,
     pub i: u16,
     pub v: u16,
     pub row: u16,
@@ -64,16 +68,15 @@ pub fn block_of(csize: u8) -> Body
     }
 }
 
-// The cell of a character whose cycle i is at (x, y): the divisions, once for a run of cycles.
-pub fn cell_at(b: Body, x: u16, y: u16, i: u16) -> Cell
-    requires { ⌜ Sized b × (x < 4096) × (y < 4096) ⌝ }
-    ensures { λ r. ⌜ (r .i ≡ i) × Counts b r × ((turned : Bool) → OnPlace turned b (behind x (bodyX turned b i)) (behind y (bodyY turned b i)) r) ⌝ }
+// The cell of a character whose cycle i is at a place: the divisions, once for a run of cycles.
+pub fn cell_at(b: Body, at: Spot, i: u16) -> Cell
+    requires { ⌜ Sized b × (at .x < 4096) × (at .y < 4096) ⌝ }
+    ensures { λ r. ⌜ (r .i ≡ i) × Counts b r × ((lie : Lie) → OnPlace lie b (movedBack at (bodyWay lie b i)) r) ⌝ }
 {
     let u = i / b.rows;
     let v = i % b.rows;
     Cell {
-        x: x,
-        y: y,
+        at: at,
         i: i,
         v: v,
         row: v / b.q,
@@ -83,54 +86,58 @@ pub fn cell_at(b: Body, x: u16, y: u16, i: u16) -> Cell
     }
 }
 
-// One dot up; turned, one to the left.
-fn risen(turned: bool, x: u16, y: u16) -> Spot
-    ensures { λ r. ⌜ (r .x ≡ cond turned (behind x 1) x) × (r .y ≡ cond turned y (ahead y 1)) ⌝ }
+// How far the dot (u, v) lies in the direction of writing.
+pub fn along(lie: Lie, u: u16, v: u16) -> u16
+    requires { ⌜ (u ≤ 4096) × (v ≤ 4096) ⌝ }
+    ensures { λ r. ⌜ r ≡ along lie u v ⌝ }
 {
-    if turned {
+    if lie.tilted { u + v } else { u }
+}
+
+// The way to the dot (u, v).
+fn laid(lie: Lie, u: u16, v: u16) -> Spot
+    requires { ⌜ (u ≤ 128) × (v ≤ 128) ⌝ }
+    ensures { λ r. ⌜ r ≡ laid lie u v ⌝ }
+{
+    let far = along(lie, u, v);
+    if lie.turned {
         Spot {
-            x: backward(x, 1),
-            y: y,
+            x: 4096 - v,
+            y: far,
         }
     } else {
-        Spot {
-            x: x,
-            y: forward(y, 1),
-        }
+        Spot { x: far, y: v }
     }
 }
 
-// From the top of a column to the foot of the next one; turned, from the left end to the right end of the next.
-fn carried(turned: bool, rise: u16, x: u16, y: u16) -> Spot
-    ensures { λ r. ⌜ (r .x ≡ cond turned (ahead x rise) (ahead x 1)) × (r .y ≡ cond turned (ahead y 1) (behind y rise)) ⌝ }
+// One dot up.
+fn risen(lie: Lie, at: Spot) -> Spot
+    ensures { λ r. ⌜ r ≡ moved at (laid lie 0 1) ⌝ }
 {
-    if turned {
-        Spot {
-            x: forward(x, rise),
-            y: forward(y, 1),
-        }
-    } else {
-        Spot {
-            x: forward(x, 1),
-            y: backward(y, rise),
-        }
-    }
+    moved(at, laid(lie, 0, 1))
+}
+
+// From the top of a column, so many dots up, to the foot of the next one.
+fn carried(lie: Lie, rise: u16, at: Spot) -> Spot
+    requires { ⌜ rise ≤ 128 ⌝ }
+    ensures { λ r. ⌜ r ≡ movedBack (moved at (laid lie 1 0)) (laid lie 0 rise) ⌝ }
+{
+    moved_back(moved(at, laid(lie, 1, 0)), laid(lie, 0, rise))
 }
 
 // One cycle further.
-pub fn next_cell(turned: bool, b: Body, c: Cell) -> Cell
+pub fn next_cell(lie: Lie, b: Body, c: Cell) -> Cell
     requires { ⌜ Sized b × Counts b c × (c .i < 20000) ⌝ }
-    ensures { λ r. ⌜ (r .i ≡ c .i + 1) × Counts b r × ((x y : ℕ) → OnPlace turned b x y c → OnPlace turned b x y r) ⌝ }
+    ensures { λ r. ⌜ (r .i ≡ c .i + 1) × Counts b r × ((start : Spot) → OnPlace lie b start c → OnPlace lie b start r) ⌝ }
 {
     let v = c.v + 1;
     let i = c.i + 1;
     if v < b.rows {
-        let to = risen(turned, c.x, c.y);
+        let to = risen(lie, c.at);
         let rowdot = c.rowdot + 1;
         if rowdot < b.q {
             return Cell {
-                x: to.x,
-                y: to.y,
+                at: to,
                 i: i,
                 v: v,
                 row: c.row,
@@ -140,8 +147,7 @@ pub fn next_cell(turned: bool, b: Body, c: Cell) -> Cell
             };
         }
         return Cell {
-            x: to.x,
-            y: to.y,
+            at: to,
             i: i,
             v: v,
             row: c.row + 1,
@@ -150,12 +156,11 @@ pub fn next_cell(turned: bool, b: Body, c: Cell) -> Cell
             columndot: c.columndot,
         };
     }
-    let to = carried(turned, c.v, c.x, c.y);
+    let to = carried(lie, c.v, c.at);
     let columndot = c.columndot + 1;
     if columndot < b.p {
         return Cell {
-            x: to.x,
-            y: to.y,
+            at: to,
             i: i,
             v: 0,
             row: 0,
@@ -165,8 +170,7 @@ pub fn next_cell(turned: bool, b: Body, c: Cell) -> Cell
         };
     }
     Cell {
-        x: to.x,
-        y: to.y,
+        at: to,
         i: i,
         v: 0,
         row: 0,
@@ -176,32 +180,14 @@ pub fn next_cell(turned: bool, b: Body, c: Cell) -> Cell
     }
 }
 
-// So many columns of dots further: to the right; turned, up.
-fn passed(turned: bool, columns: u16, x: u16, y: u16) -> Spot
-    ensures { λ r. ⌜ (r .x ≡ cond turned x (ahead x columns)) × (r .y ≡ cond turned (ahead y columns) y) ⌝ }
-{
-    if turned {
-        Spot {
-            x: x,
-            y: forward(y, columns),
-        }
-    } else {
-        Spot {
-            x: forward(x, columns),
-            y: y,
-        }
-    }
-}
-
 // From the first cycle of a column of the glyph to that of the next, P columns of dots further.
-pub fn next_column(turned: bool, b: Body, c: Cell) -> Cell
+pub fn next_column(lie: Lie, b: Body, c: Cell) -> Cell
     requires { ⌜ Sized b × Counts b c × (c .v ≡ 0) × (c .columndot ≡ 0) × (c .i + b .p * b .rows ≤ 20000) ⌝ }
-    ensures { λ r. ⌜ (r .i ≡ c .i + b .p * b .rows) × Counts b r × ((x y : ℕ) → OnPlace turned b x y c → OnPlace turned b x y r) ⌝ }
+    ensures { λ r. ⌜ (r .i ≡ c .i + b .p * b .rows) × Counts b r × ((start : Spot) → OnPlace lie b start c → OnPlace lie b start r) ⌝ }
 {
-    let to = passed(turned, b.p, c.x, c.y);
+    let to = moved(c.at, laid(lie, b.p, 0));
     Cell {
-        x: to.x,
-        y: to.y,
+        at: to,
         i: c.i + b.p * b.rows,
         v: 0,
         row: 0,

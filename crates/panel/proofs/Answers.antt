@@ -12,7 +12,7 @@ use Rattle.parts.proofs.Laws.{lowest-zero, lowest-most}
 use Rattle.rules.specs.State.{State}
 use Rattle.rules.specs.Figure.{Tables}
 use Rattle.rules.specs.Cycles.{used}
-use Rattle.rules.specs.Refusals.{bad, wrongPicture, wrongTable, noRegister, readOnly, busy, tiltedCharacter, offScreen, writeNumber, readNumber, grantNumber, vbNumber, edgeNumber}
+use Rattle.rules.specs.Refusals.{bad, wrongPicture, wrongTable, noRegister, readOnly, busy, offScreen, writeNumber, readNumber, grantNumber, vbNumber, edgeNumber}
 use Rattle.rules.specs.Calls.{Answer as Verdict, Memory, answer, outcome, written, readOut, granted, blanked, struck}
 use Rattle.gdp.specs.declared.state.Gdp.{Gdp}
 use Rattle.gdp.specs.declared.state.Answer.{Answer}
@@ -29,11 +29,11 @@ pub answer-refused : (k n : ℕ) (text : List ℕ) → (n ≡ 0 → ⊥) → ans
 unfolding answered
 answer-refused k n text h = rw (ne-eqb n 0 h)
 
--- every refusal number is at most 8
+-- every refusal number is at most 8, and a write's at most 6: no call gives 7
 module _ (s : State) where
-  pub written-small : (a v : ℕ) → written s a v .number ≤ 8
+  pub written-small : (a v : ℕ) → written s a v .number ≤ 6
   unfolding written answer writeNumber
-  written-small a v = lowest-most 8 ((1, bad s) ∷ (4, noRegister a) ∷ (5, readOnly a) ∷ (6, busy s) ∷ (7, tiltedCharacter s a v) ∷ []) tt
+  written-small a v = lowest-most 6 ((1, bad s) ∷ (4, noRegister a) ∷ (5, readOnly a) ∷ (6, busy s) ∷ []) tt
 
   pub read-out-small : (a : ℕ) → readOut s a .number ≤ 8
   unfolding readOut answer readNumber
@@ -79,7 +79,7 @@ module _ (b : Gdp) where
   given-small r h = rw (number-of b r) (number-small (named b) h)
 
   pub write-small : (a v : ℕ) → answerOf b (written (stateOf b) a v) .number ≤ 8
-  write-small a v = given-small (written (stateOf b) a v) (written-small (stateOf b) a v)
+  write-small a v = given-small (written (stateOf b) a v) (omega (arith, written-small (stateOf b) a v))
 
   pub read-small : (a : ℕ) → answerOf b (readOut (stateOf b) a) .number ≤ 8
   read-small a = given-small (readOut (stateOf b) a) (read-out-small (stateOf b) a)

@@ -71,7 +71,7 @@ module _ (k : ℕ) (line : k < 100000) where
   -- line k answers at most 11 bytes
   answer-length : (c : Card) (r : Record) → grantsIn r ≤ 65535 → length (answerTo k c r) ≤ 11
   unfolding answerTo outcomeOf grantsIn
-  answer-length c (Write a v) h = answered-length _ [] (written-small (c .state) a v) (omega arith)
+  answer-length c (Write a v) h = answered-length _ [] (omega (arith, written-small (c .state) a v)) (omega arith)
   answer-length c (Read a) h =
       answered-length _ _ (read-out-small (c .state) a) (omega (arith, lineR-length a (readOut (c .state) a .value)))
   answer-length c (Cycles n) h =

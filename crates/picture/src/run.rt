@@ -1,10 +1,11 @@
-// Dots that follow each other, a byte at a time, and boxes of them.
+// Dots that follow each other, a byte at a time, and rows of them.
 ghost use mathlib.Core.Path.{_≡_};
-ghost use Prim.Native.Nat.{_+_, _-_, _*_, _%_, _≤_, _<_, min};
+ghost use Prim.Native.Nat.{ℕ, _+_, _-_, _*_, _%_, _≤_, _<_, min};
 ghost use lib.ListN.{length};
-ghost use Rattle.picture.specs.Working.Runs.{withBits, upFrom, box};
+ghost use Rattle.picture.specs.Working.Runs.{withBits, upFrom, rowsFrom, box};
 ghost use Rattle.picture.specs.Dot.{paint};
 ghost use Rattle.picture.specs.Screen.{Screen};
+use crate::dot::set_dot;
 use crate::screen::Window;
 
 // v with the m bits from bit k on lit or dark.
@@ -35,7 +36,7 @@ fn in_byte(d: usize, n: usize) -> usize
 }
 
 // Lights or darkens the n dots from dot d on.
-pub(crate) fn paint_run(pic: &mut [u8], d: usize, n: usize, lit: bool)
+fn paint_run(pic: &mut [u8], d: usize, n: usize, lit: bool)
     requires { ⌜ (d + n ≤ 8 * length (now pic)) × (length (now pic) ≤ 65536) ⌝ }
     ensures { λ _. ⌜ now (pic .exit) ≡ paint lit (upFrom d n) (now (pic .entry)) ⌝ }
 {
@@ -59,6 +60,36 @@ pub fn paint_box(pic: &mut [u8], w: Window, x: usize, y: usize, n: usize, m: usi
     while r < m {
         paint_run(pic, d, n, lit);
         d += w.width;
+        r += 1;
+    }
+}
+
+// The same as `paint_run`, with short ways for a single dot and for dots that one byte has.
+fn paint_dots(pic: &mut [u8], d: usize, n: usize, lit: bool)
+    requires { ⌜ (d + n ≤ 8 * length (now pic)) × (length (now pic) ≤ 65536) ⌝ }
+    ensures { λ _. ⌜ now (pic .exit) ≡ paint lit (upFrom d n) (now (pic .entry)) ⌝ }
+{
+    // That n is at most 8 is asked apart: it is so for each row or for none.
+    if n == 1 {
+        set_dot(pic, d, lit);
+    } else if (1 < n) & (n <= 8) & (d % 8 + n <= 8) {
+        paint_byte(pic, d, n, lit);
+    } else {
+        paint_run(pic, d, n, lit);
+    }
+}
+
+// Lights or darkens m rows of n dots, the first from dot d on, each so many dots after the one before.
+pub fn paint_rows(pic: &mut [u8], d: usize, stride: usize, n: usize, m: usize, lit: bool)
+    requires { ⌜ (stride ≤ 524289) × (length (now pic) ≤ 65536) ⌝ }
+    requires { ⌜ ((r : ℕ) → r < m → d + r * stride + n ≤ 8 * length (now pic)) ⌝ }
+    ensures { λ _. ⌜ now (pic .exit) ≡ paint lit (rowsFrom d stride n m) (now (pic .entry)) ⌝ }
+{
+    let mut at = d;
+    let mut r = 0;
+    while r < m {
+        paint_dots(pic, at, n, lit);
+        at += stride;
         r += 1;
     }
 }

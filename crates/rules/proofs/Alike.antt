@@ -62,8 +62,8 @@ grant-memory s n m t i =
 pub write-refused : (s : State) (a v : ℕ) → ready (s .work) ≡ false → (written s a v) .state ≡ s
 unfolding written answer
 write-refused s a v busy =
-    cond-case (λ (t : State). t ≡ s) (eqb (writeNumber s a v) 0)
-    (λ z. absurd (false≢true (sym busy ∙ write-accepted s a v (eqb-true _ _ z) .1))) λ _. refl
+    cond-case (λ (t : State). t ≡ s) (eqb (writeNumber s a) 0)
+    (λ z. absurd (false≢true (sym busy ∙ write-accepted s a (eqb-true _ _ z) .1))) λ _. refl
 
 pub wrote : (c : Card) (a v : ℕ) → ready (c .state .work) ≡ false → next c (W a v) ≡ c
 unfolding next outcomeOf

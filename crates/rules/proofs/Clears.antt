@@ -152,7 +152,7 @@ prompts c e = from (or-cases _ _ e)
     from (inl t) = second (or-cases _ _ t)
     from (inr t) = named 0x0C refl t
 
-accepted-next : (c : Card) (code : ℕ) → writeNumber (c .state) 0x0 code ≡ 0
+accepted-next : (c : Card) (code : ℕ) → writeNumber (c .state) 0x0 ≡ 0
     → next c (W 0x0 code) ≡ record { state = begun (c .state) code; memory = c .memory; tables = c .tables }
 unfolding next outcomeOf written answer afterWrite
 accepted-next c code z = rw z refl
@@ -163,7 +163,7 @@ unfolding begun prompt
 begun-clear s code e = rw (prompts code e, e) (refl, refl, refl)
 
 -- so from acceptance on, for any card and any of the four
-pub clears-come : (c : Card) (code : ℕ) → clearing code ≡ true → writeNumber (c .state) 0x0 code ≡ 0
+pub clears-come : (c : Card) (code : ℕ) → clearing code ≡ true → writeNumber (c .state) 0x0 ≡ 0
     → length (c .memory .picture) ≡ bytes (c .state .format) → (es : List Event) → unwritten (risesOf (c .state)) (c .state .vb) es ≡ true
     → Come (next c (W 0x0 code)) (played c (W 0x0 code ∷ es)) (framesAfter (c .state .vb) (levelsIn es))
 unfolding played begun

@@ -1,8 +1,8 @@
 -- No call leads from a state that is not refused with 1 to one that is. Acceptance is needed only where a register is
 -- written; a refused call hands the state back. The laws of `Good` come first, those of `bad` for each call last.
 -- Assumes nothing.
-use mathlib.Core.Path.{_≡_, refl, _∙_, subst}
-use mathlib.Core.Bool.{Bool, true, false, _||_, _&&_, and-false, true≢false}
+use mathlib.Core.Path.{_≡_, refl, _∙_}
+use mathlib.Core.Bool.{Bool, true, false, _||_, and-false, true≢false}
 use mathlib.Core.List.{[], _∷_}
 use Prim.Native.Nat.{ℕ, _+_, _*_, _/_, _%_, _<_}
 use native.Mathlib.Nat.{mul-pos}
@@ -20,20 +20,20 @@ use Rattle.motion.specs.Character.{scale, scaleP, scaleQ, characterOf, blockOf,
 use Rattle.parts.specs.declared.format.Format.{Format}
 use Rattle.parts.specs.declared.command.Kind.{Kind}
 use Rattle.parts.specs.declared.command.Kind.the-variants.{NoCycle, OneCycle, Vector, Character, Block}
-use Rattle.parts.specs.Command.{kind, lettering, prompting}
+use Rattle.parts.specs.Command.{kind, prompting}
 use Rattle.parts.proofs.Laws.{lowest-zero}
 use Rattle.drawing.specs.Figure.{Figure, cyclesOf}
 use Rattle.drawing.specs.Run.{placeOf, restOf}
 use Rattle.rules.specs.Sequence.{Work, Idle, Steps, Clear, ready, lightPenOpen, workFalls, workRises}
 use Rattle.rules.specs.State.{Regs, State, withPlace, withRegs, fresh, lightPenRaises, vbRaises, readyRaises}
 use Rattle.rules.specs.Registers.{lightPenRead, afterRead}
-use Rattle.rules.specs.Figure.{tilted, figureBy, figure, cycles, Tables}
+use Rattle.rules.specs.Figure.{figureBy, figure, cycles, Tables}
 use Rattle.rules.specs.Cycles.{start, rested, afterOf, after}
 use Rattle.rules.specs.Commands.{commanded, clearing, prompt, begun, afterWrite}
 use Rattle.rules.specs.Blanking.{fallen, endsClear, clearEnds, lightPenEnds, risen, afterVb, afterEdge}
-use Rattle.rules.specs.Refusals.{badRegs, badWork, bad, busy, tiltedCharacter, noRegister, readOnly, writeNumber}
+use Rattle.rules.specs.Refusals.{badRegs, badWork, bad, busy, noRegister, readOnly, writeNumber}
 use Rattle.rules.specs.Calls.{Memory, answer, outcome, written, readOut, granted, blanked, struck}
-use Rattle.rules.specs.Working.Good.{GoodRegs, GoodSteps, GoodWork, Good}
+use Rattle.rules.specs.Working.Good.{GoodRegs, GoodWork, Good}
 use Rattle.rules.proofs.GoodParts.{good-from, good-to, placed, pointed, stored-good, commanded-good, ready-work, work-kept, regs-put, work-put, flags-put}
 
 -- granted cycles leave X and Y modulo 4,096, and a command that has cycles left, or none
@@ -49,9 +49,8 @@ after-work s n g (Steps c p) h =
     let at = restOf (figure (s .regs) c) (start (s .regs) c p) (p + n) in
     let range = rest-range (figure (s .regs) c) (start (s .regs) c p) (p + n) in
     let here : GoodRegs (withPlace at (s .regs)) = placed (g .regs) (omega (arith, range .0)) (omega (arith, range .1)) in
-    let on : more ≡ true → GoodSteps (s .regs) c (p + n) = λ e. record { left = ltb-true _ _ e; upright = h .upright } in
     cond-case Good more
-    (λ e. record { regs = here; work = work-kept (s .regs) _ _ _ _ _ (s .vb) (Steps c (p + n)) (on e); lightPen = g .lightPen })
+    (λ e. record { regs = here; work = work-kept (s .regs) _ _ _ _ _ (s .vb) (Steps c (p + n)) (ltb-true _ _ e); lightPen = g .lightPen })
     λ _. record { regs = here; work = tt; lightPen = g .lightPen }
 after-work s n g (Clear f o) h = g
 
@@ -84,31 +83,29 @@ prompt-keeps s c g =
     cond-case Good (eqb c 0x08 || eqb c 0x09) (λ _. record { regs = g .regs; work = g .work; lightPen = and-false (s .vb) }) λ _.
     flags-put _ g
 
--- a command that begins while none runs, and is no character with tilt high
-pub begun-keeps : (s : State) (c : ℕ) → ready (s .work) ≡ true → (lettering (kind c) && tilted (s .regs)) ≡ false → Good s
-    → Good (begun s c)
+-- a command that begins while none runs
+pub begun-keeps : (s : State) (c : ℕ) → ready (s .work) ≡ true → Good s → Good (begun s c)
 unfolding begun
-begun-keeps s c i u g =
+begun-keeps s c i g =
     let r = commanded (s .regs) c in
     cond-case Good (prompting (kind c))
     (λ _. prompt-keeps (withRegs r s) c (regs-put g (commanded-good (s .regs) c (g .regs)) (ready-work r (s .vb) (s .work) i)))
-    (λ e. work-put g (record { left = some-cycles (s .regs) c e; upright = u }))
+    (λ e. work-put g (some-cycles (s .regs) c e))
 
--- where a write is accepted the state is good, no command runs, and the value is no character command with tilt high
-pub write-accepted : (s : State) (a v : ℕ) → writeNumber s a v ≡ 0
-    → Good s × (ready (s .work) ≡ true) × (tiltedCharacter s a v ≡ false)
+-- where a write is accepted the state is good and no command runs
+pub write-accepted : (s : State) (a : ℕ) → writeNumber s a ≡ 0 → Good s × (ready (s .work) ≡ true)
 unfolding writeNumber busy
-write-accepted s a v e =
-    let none = lowest-zero ((1, bad s) ∷ (4, noRegister a) ∷ (5, readOnly a) ∷ (6, busy s) ∷ (7, tiltedCharacter s a v) ∷ []) tt e in
-    (good-from s (none .0), not-false (ready (s .work)) (none .1 .1 .1 .0), none .1 .1 .1 .1 .0)
+write-accepted s a e =
+    let none = lowest-zero ((1, bad s) ∷ (4, noRegister a) ∷ (5, readOnly a) ∷ (6, busy s) ∷ []) tt e in
+    (good-from s (none .0), not-false (ready (s .work)) (none .1 .1 .1 .0))
 
 -- so its next state is good
-write-keeps : (s : State) (a v : ℕ) → v < 256 → writeNumber s a v ≡ 0 → Good (afterWrite s a v)
-unfolding afterWrite tiltedCharacter
+write-keeps : (s : State) (a v : ℕ) → v < 256 → writeNumber s a ≡ 0 → Good (afterWrite s a v)
+unfolding afterWrite
 write-keeps s a v b e =
-    let f = write-accepted s a v e in
+    let f = write-accepted s a e in
     cond-case Good (eqb a 0x0)
-    (λ z. begun-keeps s v (f .1) (subst (λ (t : Bool). (t && lettering (kind v) && tilted (s .regs)) ≡ false) z (f .2)) (f .0))
+    (λ _. begun-keeps s v (f .1) (f .0))
     λ _. regs-put (f .0) (stored-good (s .regs) a v b (f .0 .regs)) (ready-work _ (s .vb) (s .work) (f .1))
 
 -- a read clears the flags, or bit 0 of XLP
@@ -186,11 +183,10 @@ pub after-good : (s : State) (n : ℕ) → bad s ≡ false → bad (after s n) �
 after-good s n e = good-to (after s n) (after-keeps s n (good-from s e))
 
 -- nor one in which a command was accepted
-pub begun-good : (s : State) (c : ℕ) → writeNumber s 0x0 c ≡ 0 → bad (begun s c) ≡ false
-unfolding tiltedCharacter
+pub begun-good : (s : State) (c : ℕ) → writeNumber s 0x0 ≡ 0 → bad (begun s c) ≡ false
 begun-good s c e =
-    let f = write-accepted s 0x0 c e in
-    good-to (begun s c) (begun-keeps s c (f .1) (f .2) (f .0))
+    let f = write-accepted s 0x0 e in
+    good-to (begun s c) (begun-keeps s c (f .1) (f .0))
 
 -- what a call answers: the next state where the number is 0, the state as handed in where it is not
 answer-good : (number value : ℕ) (next s : State) → (number ≡ 0 → Good s → Good next) → bad s ≡ false

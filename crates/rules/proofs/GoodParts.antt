@@ -12,7 +12,7 @@ use Rattle.motion.specs.declared.position.Spot.{Spot}
 use Rattle.rules.specs.Sequence.{Work, Idle, Steps, Clear, ready}
 use Rattle.rules.specs.State.{Regs, Flags, State, regs, withPlace, withLpck, withRegs, withWork, withFlags}
 use Rattle.rules.specs.Registers.{stored}
-use Rattle.rules.specs.Figure.{tilted, cycles}
+use Rattle.rules.specs.Figure.{cycles}
 use Rattle.rules.specs.Commands.{commanded}
 use Rattle.rules.specs.Refusals.{badRegs, badWork, bad}
 use Rattle.rules.specs.Working.Good.{GoodRegs, GoodWork, Good}
@@ -44,15 +44,13 @@ regs-to r g =
 work-from : (r : Regs) (vb : Bool) (w : Work) → badWork r vb w ≡ false → GoodWork r vb w
 unfolding badWork
 work-from r vb Idle e = tt
-work-from r vb (Steps c p) e =
-    let h = or-parts _ _ e in
-    record { left = leb-false (cycles r c) p (h .0); upright = h .1 }
+work-from r vb (Steps c p) e = leb-false (cycles r c) p e
 work-from r vb (Clear f o) e = e
 
 work-to : (r : Regs) (vb : Bool) (w : Work) → GoodWork r vb w → badWork r vb w ≡ false
 unfolding badWork
 work-to r vb Idle h = refl
-work-to r vb (Steps c p) h = or-both (lt-leb (cycles r c) p (h .left)) (h .upright)
+work-to r vb (Steps c p) h = lt-leb (cycles r c) p h
 work-to r vb (Clear f o) h = h
 
 -- a state that is not refused with 1 is good
@@ -119,10 +117,8 @@ ready-work r vb (Clear f o) e = absurd (false≢true e)
 -- the cycles of a command depend neither on CTRL1, X and Y nor on XLP and YLP, so it stays good when they are put anew
 pub work-kept : (r : Regs) (c1 x y xl yl : ℕ) (vb : Bool) (w : Work) → GoodWork r vb w
     → GoodWork (regs c1 (r .ctrl2) (r .csize) (r .deltax) (r .deltay) x y xl yl) vb w
-unfolding tilted
 work-kept r c1 x y xl yl vb Idle h = tt
-work-kept r c1 x y xl yl vb (Steps c p) h =
-    record { left = subst (λ (n : ℕ). p < n) (sym (cycles-kept r c1 x y xl yl c)) (h .left); upright = h .upright }
+work-kept r c1 x y xl yl vb (Steps c p) h = subst (λ (n : ℕ). p < n) (sym (cycles-kept r c1 x y xl yl c)) h
 work-kept r c1 x y xl yl vb (Clear f o) h = h
 
 -- the state with its registers, what runs, or its flags put anew

@@ -6,11 +6,12 @@ use Rattle.basis.specs.Reading.{every}
 use Rattle.rules.specs.Tables.RegisterRows.{bytesThrough, oneChanges, halves, addressNumbers, eachRead}
 use Rattle.rules.specs.Tables.CommandRows.{shortCommands, longCommands}
 use Rattle.rules.specs.Tables.FrameRows.{levels, levelsFlagged, pictures, openFrames, lpckEdges, statusRows, outsides}
-use Rattle.rules.specs.Tables.DrawRows.{strokeRows, lineTypeRows, letterRows, codeRows, turnedRows, nothingLeft, ctrl1Bits, ctrl2Bits}
+use Rattle.rules.specs.Tables.DrawRows.{strokeRows, lineTypeRows, letterRows, slantedLetterRows, codeRows, turnedRows, slantedRows, nothingLeft, ctrl1Bits, ctrl2Bits}
 use Rattle.rules.specs.Tables.RefusalRows.{limits, progress, memories, answerRows, outputRows, events}
 use Rattle.rules.specs.Tables.FormatRows.{formatWrites, formatReads, formatFrames, flawRows}
 use Rattle.rules.specs.Tables.FreeRows.{freeWrites, freeReads, freeFrames, freeGrants, freeRefusals}
 use Rattle.rules.specs.Tables.TwoFrames.{twoFrames}
+use Rattle.rules.specs.Tables.Slants.{slanted, slantParts, slantEdges, untilted}
 use Rattle.rules.specs.Tables.Computed.{computed}
 
 -- every address, written and read
@@ -85,6 +86,10 @@ pub letter-rows-hold : every letterRows ≡ true
 unfolding computed
 letter-rows-hold = refl
 
+pub slanted-letter-rows-hold : every slantedLetterRows ≡ true
+unfolding computed
+slanted-letter-rows-hold = refl
+
 pub code-rows-hold : every codeRows ≡ true
 unfolding computed
 code-rows-hold = refl
@@ -92,6 +97,10 @@ code-rows-hold = refl
 pub turned-rows-hold : every turnedRows ≡ true
 unfolding computed
 turned-rows-hold = refl
+
+pub slanted-rows-hold : every slantedRows ≡ true
+unfolding computed
+slanted-rows-hold = refl
 
 pub nothing-left-hold : every nothingLeft ≡ true
 unfolding computed
@@ -172,3 +181,20 @@ free-refusals-hold = refl
 pub two-frames-hold : every twoFrames ≡ true
 unfolding computed
 two-frames-hold = refl
+
+-- slanted characters: whole, in part, at the edges; and vectors, which tilt leaves as they are
+pub slanted-hold : every slanted ≡ true
+unfolding computed
+slanted-hold = refl
+
+pub slant-parts-hold : every slantParts ≡ true
+unfolding computed
+slant-parts-hold = refl
+
+pub slant-edges-hold : every slantEdges ≡ true
+unfolding computed
+slant-edges-hold = refl
+
+pub untilted-hold : every untilted ≡ true
+unfolding computed
+untilted-hold = refl

@@ -45,7 +45,7 @@ outcome number value next changed s m =
 
 -- write value v to the register at address a
 unfoldable pub written : State → ℕ → ℕ → Answer
-written s a v = answer (writeNumber s a v) 0 (afterWrite s a v) s
+written s a v = answer (writeNumber s a) 0 (afterWrite s a v) s
 
 -- read the register at address a
 unfoldable pub readOut : State → ℕ → Answer

@@ -1,12 +1,13 @@
 -- What a command draws, by the registers while it runs. c is its code.
 -- Assumes nothing.
 use Prim.Native.Nat.{ℕ}
-use mathlib.Core.Bool.{Bool, cond, _||_}
+use mathlib.Core.Bool.{cond, _||_}
 use mathlib.Core.List.{List}
 use lib.Dec.{eqb}
 use Rattle.picture.specs.Bit.{bitAt}
+use Rattle.motion.specs.declared.character.Lie.{Lie}
 use Rattle.motion.specs.Vector.{lineOf}
-use Rattle.motion.specs.Character.{characterOf, blockOf}
+use Rattle.motion.specs.Character.{characterOf, blockOf, lying}
 use Rattle.motion.specs.Glyph.{glyphOf, solidGlyph}
 use Rattle.parts.specs.declared.command.Kind.{Kind}
 use Rattle.parts.specs.declared.command.Kind.the-variants.{NoCycle, OneCycle, Vector, Character, Block}
@@ -14,18 +15,15 @@ use Rattle.parts.specs.Command.{kind}
 use Rattle.drawing.specs.Figure.{Figure, Stroke, Cells, Pause, Nothing, cyclesOf}
 use Rattle.rules.specs.State.{Regs}
 
--- CTRL2 bit 3: characters run upwards; bit 2: tilted
-unfoldable pub turned : Regs → Bool
-turned r = bitAt 3 (r .ctrl2)
-
-unfoldable pub tilted : Regs → Bool
-tilted r = bitAt 2 (r .ctrl2)
+-- how characters and blocks lie: CTRL2 bit 3, they run upwards; bit 2, they are tilted
+unfoldable pub lie : Regs → Lie
+lie r = lying (bitAt 3 (r .ctrl2)) (bitAt 2 (r .ctrl2))
 
 -- a vector by DELTAX and DELTAY with the line type of CTRL2; a character and a block by CSIZE; 0F one cycle without a dot
 unfoldable pub figureBy : Regs → ℕ → Kind → Figure
 figureBy r c Vector = Stroke (r .ctrl2) (lineOf c (r .deltax) (r .deltay))
-figureBy r c Character = Cells (turned r) (characterOf (r .csize))
-figureBy r c Block = Cells (turned r) (blockOf (r .csize))
+figureBy r c Character = Cells (lie r) (characterOf (r .csize))
+figureBy r c Block = Cells (lie r) (blockOf (r .csize))
 figureBy r c OneCycle = Pause
 figureBy r c NoCycle = Nothing
 

@@ -7,21 +7,20 @@ use lib.Dec.{eqb, ltb, leb}
 use lib.ListN.{length}
 use Rattle.picture.specs.Bit.{bitAt}
 use Rattle.parts.specs.Format.{bytes}
-use Rattle.parts.specs.Command.{kind, lettering}
 use Rattle.parts.specs.Refusal.{lowest}
 use Rattle.rules.specs.Sequence.{Work, Idle, Steps, Clear, ready, lightPenOpen}
 use Rattle.rules.specs.State.{Regs, State}
-use Rattle.rules.specs.Figure.{Tables, cycles, tilted}
+use Rattle.rules.specs.Figure.{Tables, cycles}
 
 -- 1: X or Y above 4,095, CTRL1 above 127, CTRL2 above 15, bit 1 of XLP high
 unfoldable pub badRegs : Regs → Bool
 badRegs r = ltb 4095 (r .x) || ltb 4095 (r .y) || ltb 127 (r .ctrl1) || ltb 15 (r .ctrl2) || bitAt 1 (r .xlp)
 
 -- a running command that takes no time: its count is 0, so no progress is below it; a progress not below the count;
--- a running character with tilt high; VB high inside an open frame of a clear
+-- VB high inside an open frame of a clear
 unfoldable pub badWork : Regs → Bool → Work → Bool
 badWork r vb Idle = false
-badWork r vb (Steps c p) = leb (cycles r c) p || (lettering (kind c) && tilted r)
+badWork r vb (Steps c p) = leb (cycles r c) p
 badWork r vb (Clear f o) = vb && o .inside
 
 -- or VB high inside an open frame of the pen
@@ -48,18 +47,15 @@ readOnly a = eqb a 0xC || eqb a 0xD
 unfoldable pub busy : State → Bool
 busy s = not (ready (s .work))
 
--- 7: a character command while CTRL2 bit 2 is high
-unfoldable pub tiltedCharacter : State → ℕ → ℕ → Bool
-tiltedCharacter s a v = eqb a 0x0 && lettering (kind v) && tilted (s .regs)
+-- 7, once a character command while CTRL2 bit 2 is high, is given by no call
 
 -- 8: h above 63 or v above 255
 unfoldable pub offScreen : ℕ → ℕ → Bool
 offScreen h v = ltb 63 h || ltb 255 v
 
 -- each call's own cases
-unfoldable pub writeNumber : State → ℕ → ℕ → ℕ
-writeNumber s a v =
-    lowest ((1, bad s) ∷ (4, noRegister a) ∷ (5, readOnly a) ∷ (6, busy s) ∷ (7, tiltedCharacter s a v) ∷ [])
+unfoldable pub writeNumber : State → ℕ → ℕ
+writeNumber s a = lowest ((1, bad s) ∷ (4, noRegister a) ∷ (5, readOnly a) ∷ (6, busy s) ∷ [])
 
 unfoldable pub readNumber : State → ℕ → ℕ
 readNumber s a = lowest ((1, bad s) ∷ (4, noRegister a) ∷ [])

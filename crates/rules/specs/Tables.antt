@@ -11,5 +11,6 @@ pub mod DrawRows
 pub mod RefusalRows
 pub mod FormatRows
 pub mod FreeRows
+pub mod Slants
 pub mod TwoFrames
 pub mod Computed

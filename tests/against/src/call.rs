@@ -5,6 +5,9 @@ use crate::flat::{Flat, FlatAddress, FlatAnswer, FlatPbm};
 use crate::lent::Part;
 use std::fmt::{Display, Formatter, Result};
 
+/// No call gives it: it was the refusal of tilted characters, and these are drawn.
+pub const FREE_NUMBER: u8 = 7;
+
 /// `picture`, `table`, `buffer` and `file` are the lengths of the memories lent.
 #[derive(Clone, Copy, PartialEq, Eq, Debug)]
 pub enum Call {

@@ -1,6 +1,6 @@
 //! One call by itself, as the words of a command: its state, its arguments and the memories it lends.
 
-use crate::call::Call;
+use crate::call::{Call, FREE_NUMBER};
 use crate::card::Card;
 use crate::flat::{Flat, ALL_ONES};
 use crate::memory::{byte, memory, number, spelled};
@@ -38,14 +38,19 @@ impl Promise {
     }
 }
 
+/// What was known of the state holds, and the number is not the free one.
+pub fn is_due(number: u8, promise: Option<Promise>) -> bool {
+    number != FREE_NUMBER && promise.is_none_or(|promise| promise.is_kept(number))
+}
+
 impl Case {
     pub fn play(&self, library: &impl Card, model: &impl Card) -> Outcome {
         Scene::holding(&self.lent).play(library, model, self.state, self.call)
     }
 
-    /// Both cards leave the same, and what was known of the state holds.
+    /// Both cards leave the same, and their number can be right.
     pub fn is_settled(&self, outcome: &Outcome) -> bool {
-        outcome.agrees() && self.promise.is_none_or(|promise| promise.is_kept(outcome.model.number()))
+        outcome.agrees() && is_due(outcome.model.number(), self.promise)
     }
 
     /// The words after `differ call`.

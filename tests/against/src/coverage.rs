@@ -1,7 +1,7 @@
 //! The finer counts of a run: single codes and addresses, formats, lengths lent, sizes of grants, the moments of VB
-//! calls and LPCK edges, what calls met left-overs, the frames of clears, and PBM.
+//! calls and LPCK edges, what calls met left-overs, the frames of clears, how characters lie, and PBM.
 
-use crate::call::{Call, KINDS, KINDS_OF_CARD};
+use crate::call::{Call, FREE_NUMBER, KINDS, KINDS_OF_CARD};
 use crate::convert::{format_number, has_left_overs, state_of};
 use crate::draw::arguments::{bytes, TABLE_BYTES};
 use crate::draw::count;
@@ -10,6 +10,8 @@ use crate::draw::single::Known;
 use crate::flat::Flat;
 use crate::frame_coverage::FrameCoverage;
 use crate::pbm_coverage::PbmCoverage;
+use crate::scene::Memories;
+use crate::slant_coverage::SlantCoverage;
 use second::{Pen, State, Work};
 
 const LENGTHS: [&str; 4] = ["the right length", "no length", "a shorter one", "a longer one"];
@@ -50,6 +52,7 @@ pub struct Coverage {
     /// Beside left-overs of any kind, by number.
     left_over_numbers: [u64; 256],
     pub frames: FrameCoverage,
+    slants: SlantCoverage,
     pbm: PbmCoverage,
 }
 
@@ -73,14 +76,15 @@ impl Default for Coverage {
             left_over_levels: [[0; 2]; left_over::KINDS.len()],
             left_over_numbers: [0; 256],
             frames: FrameCoverage::default(),
+            slants: SlantCoverage::default(),
             pbm: PbmCoverage::default(),
         }
     }
 }
 
 impl Coverage {
-    /// `picture` is what the call was lent, as it was before.
-    pub fn count(&mut self, flat: &Flat, call: &Call, number: u8, known: Known, picture: &[u8]) {
+    /// `lent` is as it was before the call.
+    pub fn count(&mut self, flat: &Flat, call: &Call, number: u8, known: Known, lent: &Memories) {
         self.pbm.count(call, number, known);
         if has_left_overs(flat) {
             self.left_over_numbers[usize::from(number)] += 1;
@@ -101,7 +105,10 @@ impl Coverage {
             self.left_over_calls[kind][call.kind()] += 1;
             self.left_over_levels[kind][usize::from(state.vb)] += 1;
         }
-        self.frames.count(flat, &state, call, number, picture);
+        self.frames.count(flat, &state, call, number, &lent.picture);
+        if number == 0 {
+            self.slants.count(&state, call, lent);
+        }
         match *call {
             Call::Write { address, value } => self.count_write(address, value, number),
             Call::Read { address: address @ 0..=15 } => self.read[usize::from(address)] += 1,
@@ -163,6 +170,7 @@ impl Coverage {
         }
         self.left_over_rows(&mut add);
         rows.extend(self.frames.rows());
+        rows.extend(self.slants.rows());
         rows.extend(self.pbm.rows());
         rows
     }
@@ -177,6 +185,7 @@ impl Coverage {
             levels.for_each(|(level, n)| add(format!("accepted beside a left-over, {name}, VB {level}"), n));
         }
         let numbers = self.left_over_numbers.iter().enumerate().take(9);
+        let numbers = numbers.filter(|(number, _)| *number != usize::from(FREE_NUMBER));
         numbers.for_each(|(number, n)| add(format!("number {number} beside left-overs"), *n));
     }
 }

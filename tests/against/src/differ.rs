@@ -2,7 +2,7 @@
 
 use crate::call::{Call, Reply};
 use crate::card::Card;
-use crate::case::{Case, Promise};
+use crate::case::{is_due, Case, Promise};
 use crate::convert::{flattened, state_of};
 use crate::difference::Difference;
 use crate::draw::single::{self, Known};
@@ -129,8 +129,7 @@ impl<'a, L: Card, M: Card> Differ<'a, L, M> {
 
     fn single_call(&mut self) -> Result<(), Box<Difference>> {
         self.renew_single();
-        let (state, known) = single::state(&mut self.random);
-        let call = single::call(&mut self.random, &state);
+        let (state, known, call) = single::drawn(&mut self.random);
         let outcome = self.single.play(self.library, self.model, state, call);
         self.settle(Place::Single, state, call, outcome, known)
     }
@@ -150,7 +149,8 @@ impl<'a, L: Card, M: Card> Differ<'a, L, M> {
         self.settle(Place::Single, ALL_ONES, call, outcome, known)
     }
 
-    /// Counts a call on which all agree: both cards, and what was known of the state before.
+    /// Counts a call on which all agree: both cards, what was known of the state before, and that no call gives the free
+    /// number.
     fn settle(
         &mut self,
         place: Place,
@@ -164,17 +164,17 @@ impl<'a, L: Card, M: Card> Differ<'a, L, M> {
             Place::Run => self.run.before(),
             Place::Single => self.single.before(),
         };
-        self.tally.count(&state, &call, number, known, &lent.picture);
+        self.tally.count(&state, &call, number, known, lent);
         let promise = match known {
             Known::Good | Known::LeftOver(_) => Some(Promise::Good),
             Known::Refused(_) => Some(Promise::Bad),
             Known::File(_) | Known::Nothing => None,
         };
-        if outcome.agrees() && promise.is_none_or(|promise| promise.is_kept(number)) {
+        if outcome.agrees() && is_due(number, promise) {
             return Ok(());
         }
-        // Where the cards differ, that is what is told.
-        let promise = promise.filter(|_| outcome.agrees());
+        // Where the cards differ or only the number is wrong, that is what is told.
+        let promise = promise.filter(|promise| outcome.agrees() && !promise.is_kept(number));
         let case = Case { state, call, lent: lent.clone(), promise };
         Err(Box::new(Difference::met(self.seed, self.tally.calls, case, outcome, self.library, self.model)))
     }

@@ -1,6 +1,6 @@
 //! A difference, told as one command that shows it by itself.
 
-use crate::call::Reply;
+use crate::call::{Reply, FREE_NUMBER};
 use crate::card::Card;
 use crate::case::{Case, Promise};
 use crate::flat::Flat;
@@ -41,10 +41,11 @@ impl Difference {
 /// The smallest case found that shows what this one shows, and what both cards do with it; None where this one does not
 /// show it by itself.
 pub fn smallest(case: Case, library: &impl Card, model: &impl Card) -> Option<(Case, Outcome)> {
-    // A case that was met because a promise broke must go on to break it, and one that differs to differ.
+    // A case on which both agree, and are wrong, must go on to be one, and a case that differs to differ.
+    let agreed = case.play(library, model).agrees();
     let shows = |case: &Case| {
         let outcome = case.play(library, model);
-        !case.is_settled(&outcome) && outcome.agrees() == case.promise.is_some()
+        !case.is_settled(&outcome) && outcome.agrees() == agreed
     };
     if !shows(&case) {
         return None;
@@ -78,8 +79,12 @@ pub fn told(out: &mut impl std::fmt::Write, case: &Case, outcome: &Outcome) -> R
     memory(out, "picture", case.lent.picture.len(), outcome.picture)?;
     memory(out, "table", case.lent.table.len(), outcome.table)?;
     memory(out, "file", case.lent.file.len(), outcome.file)?;
+    let number = outcome.model.number();
+    if outcome.agrees() && number == FREE_NUMBER {
+        writeln!(out, "Both agree, but no call gives {FREE_NUMBER}.")?;
+    }
     match case.promise {
-        Some(promise) if promise.is_kept(outcome.model.number()) => Ok(()),
+        Some(promise) if promise.is_kept(number) => Ok(()),
         Some(Promise::Good) => writeln!(out, "Both agree, but the state was drawn good."),
         Some(Promise::Bad) => writeln!(out, "Both agree, but a cause of refusal 1 was planted in the state."),
         None => Ok(()),

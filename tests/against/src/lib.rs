@@ -15,6 +15,7 @@ pub mod draw;
 #[cfg(linked)]
 pub mod ffi;
 pub mod flat;
+pub mod formula;
 pub mod frame_coverage;
 pub mod lent;
 pub mod library;
@@ -28,4 +29,5 @@ pub mod scene;
 #[cfg(not(linked))]
 pub mod shared;
 pub mod shrink;
+pub mod slant_coverage;
 pub mod tally;

@@ -16,6 +16,8 @@ const CSIZE: u8 = 0x11;
 /// Commands of few cycles.
 const ONE_CYCLE: u8 = 0x0F;
 const VECTOR: u8 = 0x10;
+/// The lowest of the codes that tilt slants.
+const BLOCK: u8 = 0x0A;
 
 /// A file of PBM takes milliseconds to read, so what does not get smaller within so many tries stays as it is.
 const TRIES: u32 = 3_000;
@@ -68,7 +70,7 @@ fn weight(case: &Case) -> u64 {
 }
 
 /// Fields of the state that only change together; left-overs go first.
-const LEAPS: [fn(&mut Flat); 7] = [
+const LEAPS: [fn(&mut Flat); 8] = [
     |s| *s = cleaned(s).unwrap_or(*s),
     |s| s.modes &= !FORMAT,
     |s| s.signals &= !PEN,
@@ -78,6 +80,7 @@ const LEAPS: [fn(&mut Flat); 7] = [
     },
     |s| (s.code, s.done) = (ONE_CYCLE, 0),
     |s| (s.code, s.done) = (VECTOR, 0),
+    |s| (s.code, s.done) = (BLOCK, 0),
     |s| (s.done, s.csize) = (0, CSIZE),
 ];
 

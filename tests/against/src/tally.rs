@@ -1,18 +1,19 @@
 //! What a run has covered.
 
-use crate::call::{Call, KINDS};
+use crate::call::{Call, FREE_NUMBER, KINDS};
 use crate::coverage::Coverage;
 use crate::draw::codes::{class_of, CLASSES};
 use crate::draw::left_over;
 use crate::draw::single::{causes, Known};
 use crate::flat::Flat;
+use crate::scene::Memories;
 use second::State;
 use std::fmt::{Display, Formatter, Result};
 
 /// A run this long must have met everything often enough.
 pub const WHOLE_RUN: u64 = 500_000;
-/// The refusal numbers, and 0.
-const NUMBERS: usize = 13;
+/// The refusal numbers, the free one among them, and 0.
+const NUMBERS: u8 = 13;
 /// Each kind of call, number, class of command, cause of refusal 1, and left-over accepted and refused.
 const OFTEN: u64 = 100;
 /// Each row of the finer counts.
@@ -44,10 +45,10 @@ impl Default for Tally {
 }
 
 impl Tally {
-    /// `picture` is what the call was lent, as it was before.
-    pub fn count(&mut self, state: &Flat, call: &Call, number: u8, known: Known, picture: &[u8]) {
+    /// `lent` is as it was before the call.
+    pub fn count(&mut self, state: &Flat, call: &Call, number: u8, known: Known, lent: &Memories) {
         self.calls += 1;
-        self.finer.count(state, call, number, known, picture);
+        self.finer.count(state, call, number, known, lent);
         self.kinds[call.kind()] += 1;
         self.numbers[usize::from(number)] += 1;
         if let (Call::Write { address: 0, value }, 0) = (call, number) {
@@ -90,8 +91,9 @@ impl Tally {
         };
         let seldom = |what: String, count: u64| below(OFTEN, what, count);
         let kinds = KINDS.iter().zip(self.kinds).filter_map(|(name, n)| seldom(name.to_string(), n));
-        let numbers =
-            (0..NUMBERS).filter_map(|number| seldom(format!("number {number}"), self.numbers[number]));
+        let numbers = (0..NUMBERS).filter(|number| *number != FREE_NUMBER);
+        let numbers = numbers
+            .filter_map(|number| seldom(format!("number {number}"), self.numbers[usize::from(number)]));
         let commands =
             CLASSES.iter().zip(self.commands).filter_map(|((_, name), n)| seldom(name.to_string(), n));
         let causes = self.causes.iter().filter_map(|(name, n)| seldom(format!("refusal 1 for {name}"), *n));

@@ -1,5 +1,8 @@
 //! A card with one fault is noticed, and told as one small call that shows it again by itself.
 
+#[path = "noticed/slants.rs"]
+mod slants;
+
 use against::call::Call;
 use against::card::Card;
 use against::case::Case;
@@ -59,6 +62,20 @@ enum Fault {
     StrictMark,
     /// VB high in the second of two frames taken as good.
     LenientFrame,
+    /// A tilted character drawn as a straight one.
+    Straight,
+    /// The dots of a tilted character where a straight one has them, and X and Y right.
+    StraightDots,
+    /// Tilted, one step for a row of the glyph instead of one for each of its lines.
+    RowsSlanted,
+    /// Tilted and turned, slanted down instead of up.
+    SlantedBack,
+    /// X, or turned Y, left as far along at the end as the last line is.
+    KeptSlant,
+    /// 0B refused with 7 while tilt is high.
+    RefusedBlock,
+    /// A character that runs tilted refused with 1.
+    RefusedTilt,
     /// The bottom line written first.
     Upturned,
     /// A byte behind the written ones changed in the buffer.
@@ -91,6 +108,10 @@ impl Card for Wrong {
         if self.0 == Fault::Number && answer.number == 6 && tilted_character {
             answer.number = 7;
         }
+        let tilted_block = address == 0 && value == 0x0B && state.ctrl2 & 4 != 0;
+        if self.0 == Fault::RefusedBlock && answer.number == 0 && tilted_block {
+            return FlatAnswer { number: 7, value: 0, state };
+        }
         if self.0 == Fault::HeadStart && two_frames(&answer.state) && answer.number == 0 {
             answer.state.modes |= state.modes & FIRST_FRAME_OVER;
         }
@@ -105,6 +126,9 @@ impl Card for Wrong {
             Fault::Looking if inside && state.signals & VB != 0 => {
                 return FlatAnswer { number: 1, value: 0, state };
             }
+            Fault::RefusedTilt if slants::tilted(&state).is_some() => {
+                return FlatAnswer { number: 1, value: 0, state };
+            }
             Fault::Tidying if answer.number == 4 && state.modes & WORK != STEPS => answer.state.done = 0,
             Fault::StrictMark if one_frame(&state) && state.modes & FIRST_FRAME_OVER != 0 => {
                 return FlatAnswer { number: 1, value: 0, state };
@@ -115,6 +139,14 @@ impl Card for Wrong {
     }
 
     fn grant(&self, state: Flat, n: u16, mut picture: Part, mut table: Part) -> FlatAnswer {
+        match self.0 {
+            _ if slants::tilted(&state).is_none() => {}
+            Fault::StraightDots => return slants::straight_dots(state, n, picture, table),
+            Fault::Straight | Fault::RowsSlanted | Fault::SlantedBack | Fault::KeptSlant => {
+                return slants::leaning(self.0, state, n, picture, table);
+            }
+            _ => {}
+        }
         let (lent_picture, lent_table) = (again(&mut picture), again(&mut table));
         let mut answer = Model.grant(state, n, lent_picture, lent_table);
         if answer.number == 0 && answer.value > 0 {
@@ -509,6 +541,12 @@ fn a_whole_run_that_met_nothing_says_so() {
         "PBM read, a picture of no length",
         "PBM read, a bad last dot",
     ];
+    let slants = [
+        "0B slanted upwards, cut by an edge of the window",
+        "a character 20 to 7F slanted, stepping around 4,096",
+        "0A upwards, erased",
+        "a vector 80 to FF with tilt, line type 3",
+    ];
     let frames = [
         "refusal 1 for VB high in the second frame of two of a clear",
         "a clear on FMAT low with a first frame over: refused",
@@ -520,13 +558,16 @@ fn a_whole_run_that_met_nothing_says_so() {
         "a rise that ends the second of two frames: 0C with the pen",
         "07 given on the FMAT high with VB low, and carried to its end",
     ];
-    for row in calls.iter().chain(&refusals).chain(&left_overs).chain(&finer).chain(&pbm).chain(&frames) {
+    let rows = calls.iter().chain(&refusals).chain(&left_overs).chain(&finer);
+    for row in rows.chain(&pbm).chain(&slants).chain(&frames) {
         assert!(tally.gaps().iter().any(|gap| gap.contains(row)), "{row}");
     }
     for never in [
         "register write accepted beside a left-over, steps with 0C set",
         "a clear on FMAT high with a first frame over",
         "VB set low when a clear in the second of two frames, no pen sequence, VB high",
+        "wanted: number 7.",
+        "number 7 beside left-overs",
     ] {
         assert!(tally.gaps().iter().all(|gap| !gap.contains(never)), "{never}");
     }

@@ -1,6 +1,6 @@
 //! The character generator: glyphs, the 5 × 8 block 0A and the 4 × 4 block 0B.
 
-use crate::state::{State, CTRL2_TURNED};
+use crate::state::{State, CTRL2_TILT, CTRL2_TURNED};
 
 /// One character or block at its size.
 pub struct Character {
@@ -9,13 +9,14 @@ pub struct Character {
     p: u16,
     /// Height of a cell.
     q: u16,
+    tilted: bool,
     turned: bool,
 }
 
 /// Columns of a character that can hold dots; the sixth is its spacing.
 const GLYPH_COLUMNS: u16 = 5;
 
-pub fn is_character(code: u8) -> bool {
+fn is_character(code: u8) -> bool {
     matches!(code, 0x0A | 0x0B | 0x20..=0x7F)
 }
 
@@ -28,6 +29,7 @@ impl Character {
             code,
             p: size(state.csize >> 4),
             q: size(state.csize & 0x0F),
+            tilted: state.ctrl2_has(CTRL2_TILT),
             turned: state.ctrl2_has(CTRL2_TURNED),
         })
     }
@@ -53,17 +55,20 @@ impl Character {
         self.along_writing(i / self.rise(), i % self.rise())
     }
 
-    /// On to where the next character begins.
+    /// On to where the next character begins: on the first line, so tilt does nothing to it (reading c.4).
     pub fn end(&self) -> (i32, i32) {
         self.along_writing(self.breadth(), 0)
     }
 
+    /// Lines are counted after scaling: tilted, every single one goes one further in the direction of
+    /// writing, so a cell of Q lines is slanted itself (reading c.1).
     fn along_writing(&self, u: u16, v: u16) -> (i32, i32) {
         let (u, v) = (i32::from(u), i32::from(v));
+        let along = if self.tilted { u + v } else { u };
         if self.turned {
-            (-v, u)
+            (-v, along)
         } else {
-            (u, v)
+            (along, v)
         }
     }
 

@@ -3,7 +3,7 @@
 use crate::state::{ClearKind, Pen, State, Work, CTRL1_DOWN, CTRL1_PEN, FRESH_CSIZE};
 use crate::status::ready_rises;
 
-/// The command is known to be allowed: no other runs, and no character is tilted.
+/// The command is known to be allowed: no other runs.
 pub fn accepted(state: &State, code: u8) -> State {
     let mut next = *state;
     change_at_once(&mut next, code);

@@ -1,5 +1,5 @@
 //! A second, independent model of the EF9365 / EF9366 graphic display processor.
-//! Written from document 01, requests a and b of document 02 and their readings alone, so that another
+//! Written from document 01, requests a, b and c of document 02 and their readings alone, so that another
 //! implementation can be held against it.
 //! Nothing is proved here: every call is plain code that takes one write cycle at a time.
 

@@ -1,12 +1,11 @@
 //! The refusal numbers, and for each call those that can apply to it.
 
-use crate::character::is_character;
 use crate::format::Format;
 use crate::pbm_in::PbmFile;
 use crate::pbm_out::file_bytes;
 use crate::position::POSITIONS;
-use crate::register::{CMD, XLP, YLP};
-use crate::state::{Pen, State, Work, CTRL2_TILT};
+use crate::register::{XLP, YLP};
+use crate::state::{Pen, State, Work};
 use crate::stepping::Stepping;
 
 pub const ACCEPTED: u8 = 0;
@@ -16,7 +15,7 @@ pub const TABLE_LENGTH: u8 = 3;
 pub const NO_REGISTER: u8 = 4;
 pub const READ_ONLY: u8 = 5;
 pub const BUSY: u8 = 6;
-pub const TILTED: u8 = 7;
+// 7 was a tilted character; request c plots it, and the number is free since.
 pub const PEN_RANGE: u8 = 8;
 pub const BUFFER_SHORT: u8 = 9;
 pub const NO_HEAD: u8 = 10;
@@ -26,15 +25,13 @@ pub const BAD_DOTS: u8 = 12;
 /// 96 glyphs of five bytes.
 pub const TABLE_BYTES: usize = 480;
 
-pub fn of_write(state: &State, address: u8, value: u8) -> u8 {
+pub fn of_write(state: &State, address: u8) -> u8 {
     let read_only = address == XLP || address == YLP;
-    let tilted_character = address == CMD && is_character(value) && state.ctrl2_has(CTRL2_TILT);
     lowest(&[
         (bad_state(state), BAD_STATE),
         (no_register(address), NO_REGISTER),
         (read_only, READ_ONLY),
         (!no_register(address) && !read_only && state.busy(), BUSY),
-        (tilted_character, TILTED),
     ])
 }
 
@@ -111,7 +108,7 @@ fn impossible_work(state: &State) -> bool {
     match Stepping::of(state, code) {
         // Either the command takes no time, or it is a clear, and a clear has no progress.
         None => true,
-        Some(command) => done >= command.count() || is_character(code) && state.ctrl2_has(CTRL2_TILT),
+        Some(command) => done >= command.count(),
     }
 }
 

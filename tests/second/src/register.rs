@@ -21,7 +21,7 @@ pub const XLP: u8 = 0xC;
 pub const YLP: u8 = 0xD;
 
 pub fn write(state: &State, address: u8, value: u8) -> Answer {
-    let number = refusal::of_write(state, address, value);
+    let number = refusal::of_write(state, address);
     if number != ACCEPTED {
         return Answer::refused(number, state);
     }

@@ -91,7 +91,7 @@ fn bit_1_of_xlp() {
     }
 }
 
-// readings 6 and 7: of all 256 codes, those that use write cycles are good
+// reading 6: of all 256 codes, those that use write cycles are good
 #[test]
 fn running_codes() {
     for code in NO_TIME {
@@ -114,32 +114,24 @@ fn clears_do_not_run_as_steps() {
     }
 }
 
-// reading 7
-#[test]
-fn running_characters_with_tilt_high() {
-    for code in [0x0A, 0x0B].into_iter().chain(0x20..=0x7F) {
-        for ctrl2 in [4, 5, 12, 15] {
-            assert_bad("tilted", &State { ctrl2, ..running(code, 3) });
-        }
-        for ctrl2 in [0, 3, 8, 11] {
-            assert_good("straight", &State { ctrl2, ..running(code, 3) });
-        }
-    }
-}
-
-// reading 7: tilt matters to characters alone
+/// Request c: tilt is a cause of 1 no more, neither to a running character nor to any other state.
 #[test]
 fn tilt_high_in_good_states() {
-    assert_good("idle", &State { ctrl2: 4, ..idle() });
-    for code in [0x0F].into_iter().chain(0x10..=0x1F).chain(0x80..=0xFF) {
-        assert_good("vector or 0F", &State { ctrl2: 4, ..running(code, 0) });
+    for ctrl2 in 0..16 {
+        assert_good("idle", &State { ctrl2, ..idle() });
+        for code in [0x0A, 0x0B, 0x0F].into_iter().chain(0x10..=0xFF) {
+            assert_good("a command that takes cycles", &State { ctrl2, ..running(code, 0) });
+        }
+        for code in [0x0A, 0x0B].into_iter().chain(0x20..=0x7F) {
+            assert_good("part of a character", &State { ctrl2, ..running(code, 3) });
+        }
     }
     for clear in clears(false, false) {
         assert_good("clear", &State { ctrl2: 15, ..clear });
     }
 }
 
-// reading 8: the count follows from the present DELTAX, DELTAY and CSIZE
+// reading 8: the count follows from the present DELTAX, DELTAY and CSIZE, and not from CTRL2
 #[test]
 fn progress_not_below_the_count() {
     let rows: [(&str, u8, u8, u8, u8, u16); 23] = [
@@ -169,12 +161,14 @@ fn progress_not_below_the_count() {
         ("0F", 0x0F, 200, 200, 0x00, 1),
     ];
     for (name, code, deltax, deltay, csize, count) in rows {
-        let at = |done| State { deltax, deltay, csize, ..running(code, done) };
-        assert_good(name, &at(0));
-        assert_good(name, &at(count - 1));
-        assert_bad(name, &at(count));
-        assert_bad(name, &at(count + 1));
-        assert_bad(name, &at(65_535));
+        for ctrl2 in [0, 4, 8, 12] {
+            let at = |done| State { ctrl2, deltax, deltay, csize, ..running(code, done) };
+            assert_good(name, &at(0));
+            assert_good(name, &at(count - 1));
+            assert_bad(name, &at(count));
+            assert_bad(name, &at(count + 1));
+            assert_bad(name, &at(65_535));
+        }
     }
 }
 
@@ -244,8 +238,10 @@ fn any_place_goes_with_any_progress() {
         for done in 0..6 {
             assert_good("vector", &State { x, y, deltax: 5, deltay: 2, ..running(0x17, done) });
         }
-        for done in 0..48 {
-            assert_good("character", &State { x, y, ..running(0x41, done) });
+        for ctrl2 in [0, 4, 8, 12] {
+            for done in 0..48 {
+                assert_good("character", &State { x, y, ctrl2, ..running(0x41, done) });
+            }
         }
     }
 }

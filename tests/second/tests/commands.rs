@@ -68,8 +68,11 @@ fn no_time_commands_under_the_ready_mask() {
 #[test]
 fn commands_that_take_cycles_begin_without_moving() {
     for code in [0x0A, 0x0B, 0x0F].into_iter().chain(0x10..=0xFF) {
-        let work = Work::Steps { code, done: 0 };
-        assert_eq!(after(full(), code), State { work, ..full() }, "{code:02X}");
+        for ctrl2 in 0..16 {
+            let state = State { ctrl2, ..full() };
+            let work = Work::Steps { code, done: 0 };
+            assert_eq!(after(state, code), State { work, ..state }, "{code:02X} {ctrl2}");
+        }
     }
 }
 
@@ -98,14 +101,6 @@ fn refused_07_changes_nothing() {
     let busy = State { work: Work::Steps { code: 0x11, done: 3 }, ..full() };
     let answer = write(&busy, 0, 0x07);
     assert_eq!((answer.number, answer.value, answer.state), (6, 0, busy));
-}
-
-// reading 20: a refused character leaves the processor idle
-#[test]
-fn refused_character_changes_nothing() {
-    let tilted = State { ctrl2: 4, ..full() };
-    let answer = write(&tilted, 0, 0x41);
-    assert_eq!((answer.number, answer.value, answer.state), (7, 0, tilted));
 }
 
 // reading 51: 0F is busy till one cycle is granted, and has no dot

@@ -115,12 +115,18 @@ fn an_off_dot_uses_its_cycle() {
     assert_eq!(card.dots().len(), 2);
 }
 
-// reading 67: the upper two bits of CTRL2 are no part of the line type
+// readings 67 and c.6: the upper two bits of CTRL2 are no part of the line type
 #[test]
 fn only_the_low_bits_choose_the_type() {
     for ctrl2 in 0..16 {
+        let pattern = PATTERNS[usize::from(ctrl2 % 4)];
+        for code in [0x10, 0x18] {
+            let mut card = Card::new(Format::Ef9366);
+            card.write(2, ctrl2).deltas(49, 0).run(code);
+            assert_eq!(bottom_line(&card, 50), pattern);
+        }
         let mut card = Card::new(Format::Ef9366);
-        card.write(2, ctrl2).deltas(49, 0).run(0x10);
-        assert_eq!(bottom_line(&card, 50), PATTERNS[usize::from(ctrl2 % 4)]);
+        card.write(2, ctrl2).run(0xE0);
+        assert_eq!(bottom_line(&card, 4), pattern[..4]);
     }
 }

@@ -13,7 +13,9 @@ const LISTS: usize = 10_000;
 const DOWN: u8 = 1;
 const PEN: u8 = 2;
 const TILT: u8 = 4;
-const TILTED_REFUSAL: u8 = 7;
+
+/// Addresses that no write is accepted at, and the number given.
+const REFUSED: [(u8, u8); 6] = [(0x4, 4), (0x6, 4), (0xC, 5), (0xD, 5), (0xE, 4), (0xF, 4)];
 
 /// A register address and the byte written there; address 0 takes the commands.
 type Item = (u8, u8);
@@ -22,6 +24,8 @@ type Item = (u8, u8);
 #[derive(Default, Debug)]
 struct Counts {
     wrote: usize,
+    /// Wrote, with a tilted character among the commands.
+    tilted: usize,
     refused: usize,
     pen_up: usize,
     restored: usize,
@@ -31,10 +35,11 @@ struct Counts {
 }
 
 impl Counts {
-    fn add(&mut self, start: &Card, dots: &[u8], refused: bool) {
+    fn add(&mut self, start: &Card, list: &[Item], dots: &[u8], refused: bool) {
         let wrote = !is_dark(dots);
         let untouched = is_dark(&both(&start.picture, dots));
         self.wrote += usize::from(wrote);
+        self.tilted += usize::from(wrote && tilts_a_character(&start.state, list));
         self.refused += usize::from(refused);
         self.pen_up += usize::from(start.state.ctrl1 & DOWN == 0);
         self.restored += usize::from(untouched);
@@ -55,7 +60,8 @@ fn a_list_is_erased_by_playing_it_again() {
     }
     println!("{counts:?}");
     assert_eq!(played.iter().filter(|&&code| code).count(), 16 + 128 + 96 + 2 + 3, "every command of a list");
-    assert!(counts.wrote > 6_000 && counts.refused > 2_000 && counts.pen_up > 400, "{counts:?}");
+    assert!(counts.wrote > 6_000 && counts.tilted > 3_000, "{counts:?}");
+    assert!(counts.refused > 2_000 && counts.pen_up > 400, "{counts:?}");
     assert!(counts.restored > 3_000 && counts.restored_among_lit > 1_500, "{counts:?}");
     assert!(counts.not_restored > 2_000, "{counts:?}");
 }
@@ -82,7 +88,7 @@ fn check(list: &[Item], number: usize, random: &mut Random, counts: &mut Counts)
     assert_eq!(card.picture == *before, untouched, "list {number}: restored when none was lit");
     check_registers(&card.state, &drawn.state, PEN, number);
 
-    counts.add(&start, &dots, refused > 0);
+    counts.add(&start, list, &dots, refused > 0);
 }
 
 /// What the pen lights in the dark, which must be what the eraser darkens where all is lit.
@@ -127,8 +133,8 @@ fn play(card: &mut Card, list: &[Item], random: &mut Random) -> usize {
 }
 
 fn takes(card: &mut Card, (address, value): Item, random: &mut Random) -> bool {
-    if address == 0 && takes_glyph_cells(value) && card.state.ctrl2 & TILT != 0 {
-        assert_eq!(write_number(&card.state, address, value), TILTED_REFUSAL);
+    if let Some((_, number)) = REFUSED.into_iter().find(|row| row.0 == address) {
+        assert_eq!(write_number(&card.state, address, value), number);
         return false;
     }
     card.write(address, value);
@@ -172,17 +178,29 @@ fn any_list(random: &mut Random) -> Vec<Item> {
     (0..random.below(21)).map(|_| any_item(random)).collect()
 }
 
+/// Whether any character comes after tilt was made high, by the start or by a write of CTRL2.
+fn tilts_a_character(start: &State, list: &[Item]) -> bool {
+    let mut ctrl2 = start.ctrl2;
+    list.iter().any(|&(address, value)| {
+        if address == 2 {
+            ctrl2 = value;
+        }
+        address == 0 && takes_glyph_cells(value) && ctrl2 & TILT != 0
+    })
+}
+
 fn any_item(random: &mut Random) -> Item {
-    match random.below(16) {
+    match random.below(17) {
         0 => (random.pick(&[0x8, 0xA]), if random.flag() { random.byte() } else { random.byte() & 0xF1 }),
         1 => (random.pick(&[0x9, 0xB]), random.byte()),
         2 => (random.pick(&[5, 7]), random.byte()),
         3 => (3, any_size(random)),
-        4 => (2, if random.flag() { random.byte() } else { random.byte() & !TILT }),
+        4 => (2, random.byte()),
         5 => (0, random.pick(&[0x05, 0x0D, 0x0E])),
         6..=8 => (0, 0x10 + random.below(16) as u8),
         9 | 10 => (0, 0x80 + random.below(128) as u8),
         11 => (0, random.pick(&[0x0A, 0x0B])),
+        12 => (random.pick(&REFUSED).0, random.byte()),
         _ => (0, 0x20 + random.below(96) as u8),
     }
 }

@@ -170,7 +170,6 @@ fn reading_107_refusals_by_a_line_each() {
     plays("R\tE\n", "E\t1\t4\n");
     plays("W\tD\t0\n", "E\t1\t5\n");
     plays("W\t0\tF\nW\t1\t3\n", "E\t2\t6\n");
-    plays("W\t2\t4\nW\t0\t20\n", "E\t2\t7\n");
     plays("L\t64\t0\n", "E\t1\t8\n");
     plays("Q\n", "E\t1\t20\n");
 }
@@ -182,9 +181,35 @@ fn reading_107_no_refusal_of_a_state_or_a_length() {
         let input: String = (0..=255).map(lines).collect();
         let output = String::from_utf8(panel(input.as_bytes())).unwrap();
         for line in output.lines().filter(|line| line.starts_with('E')) {
-            assert!(["4", "5", "6", "7"].iter().any(|n| line.ends_with(&format!("\t{n}"))), "{line}");
+            assert!(["4", "5", "6"].iter().any(|n| line.ends_with(&format!("\t{n}"))), "{line}");
         }
     }
+}
+
+/// Request c: the block 0B slanted, along a line and up; the table is dark, so 41 only moves on.
+#[test]
+fn slanted_blocks() {
+    let expected = [
+        "P\t0\t0\nP\t1\t0\nP\t2\t0\nP\t3\t0\n",
+        "P\t1\t1\nP\t2\t1\nP\t3\t1\nP\t4\t1\n",
+        "P\t2\t2\nP\t3\t2\nP\t4\t2\nP\t5\t2\n",
+        "P\t3\t3\nP\t4\t3\nP\t5\t3\nP\t6\t3\n",
+    ];
+    let input = "W\t1\t3\nW\t2\t4\nW\t0\tB\nT\t99\nR\t9\nR\tB\nW\t0\t41\nT\t99\nR\t9\nR\tB\n";
+    let read = "T\t16\nR\t9\t04\nR\tB\t00\nT\t48\nR\t9\t0A\nR\tB\t00\n";
+    plays(input, &format!("{read}{}", expected.concat()));
+
+    let expected = [
+        "P\t3\t0\n",
+        "P\t2\t1\nP\t3\t1\n",
+        "P\t1\t2\nP\t2\t2\nP\t3\t2\n",
+        "P\t0\t3\nP\t1\t3\nP\t2\t3\nP\t3\t3\n",
+        "P\t0\t4\nP\t1\t4\nP\t2\t4\n",
+        "P\t0\t5\nP\t1\t5\n",
+        "P\t0\t6\n",
+    ];
+    let input = "W\t1\t3\nW\t9\t3\nW\t2\tC\nW\t0\tB\nT\t99\nR\t9\nR\tB\n";
+    plays(input, &format!("T\t16\nR\t9\t03\nR\tB\t04\n{}", expected.concat()));
 }
 
 #[test]

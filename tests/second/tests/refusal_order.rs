@@ -4,7 +4,7 @@ mod common;
 
 use common::numbers::{busy, cycles_number, idle, lpck_number, read_number, vb_number, write_number, TABLE};
 use common::random::Random;
-use common::{is_good, picture_bytes, takes_glyph_cells};
+use common::{is_good, picture_bytes};
 use second::{State, Work};
 
 /// A state that row 1 refuses, made from any other.
@@ -65,12 +65,14 @@ fn read_only_goes_before_busy() {
     }
 }
 
-// reading 20: 6 goes before 7
+/// 41 while busy and tilted: 6, whether a vector runs or a tilted character.
 #[test]
-fn busy_goes_before_tilted() {
-    let state = State { ctrl2: 4, ..busy() };
+fn busy_and_tilted_is_busy() {
+    let vector = State { ctrl2: 4, ..busy() };
+    let character = State { work: Work::Steps { code: 0x41, done: 3 }, ..vector };
     for code in [0x0A, 0x0B, 0x20, 0x41, 0x7F] {
-        assert_eq!(write_number(&state, 0, code), 6);
+        assert_eq!(write_number(&vector, 0, code), 6);
+        assert_eq!(write_number(&character, 0, code), 6);
     }
 }
 
@@ -84,15 +86,8 @@ fn lowest_of_those_that_apply_for_random_input() {
         let reserved = [4, 6, 14, 15].contains(&address) || address > 15;
         let pen_register = address == 12 || address == 13;
         let busy = state.work != Work::Idle;
-        let tilted = state.ctrl2 & 4 != 0 && takes_glyph_cells(value) && address == 0;
         let bad = !is_good(&state);
-        let rows = [
-            (bad, 1),
-            (reserved, 4),
-            (pen_register, 5),
-            (busy && !reserved && !pen_register, 6),
-            (tilted, 7),
-        ];
+        let rows = [(bad, 1), (reserved, 4), (pen_register, 5), (busy && !reserved && !pen_register, 6)];
         assert_eq!(write_number(&state, address, value), first(&rows), "{state:?} {address} {value:02X}");
         assert_eq!(read_number(&state, address), first(&[(bad, 1), (reserved, 4)]), "{state:?} {address}");
         let (h, v) = (random.below(70) as u16, random.below(300) as u16);

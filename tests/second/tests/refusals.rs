@@ -1,4 +1,4 @@
-//! Refusal numbers 2 to 8, in every call where they can arise.
+//! Refusal numbers 2 to 6 and 8, in every call where they can arise. 7 is free since request c.
 
 mod common;
 
@@ -150,18 +150,14 @@ fn writes_while_a_pen_sequence_is_under_way() {
     }
 }
 
-// 7: tilted characters
+// 7: free, as no command is refused for tilt
 
-// reading 20: only by CMD, 0A and 0B too, and nothing changes
 #[test]
-fn tilted_characters() {
+fn no_command_is_refused_for_ctrl2() {
     for ctrl2 in 0..16 {
         let state = State { ctrl2, ..idle() };
-        let tilted = [4, 5, 6, 7, 12, 13, 14, 15].contains(&ctrl2);
         for code in 0..=255 {
-            let character = code == 0x0A || code == 0x0B || (32..=127).contains(&code);
-            let expected = if tilted && character { 7 } else { 0 };
-            assert_eq!(write_number(&state, 0, code), expected, "{ctrl2} {code:02X}");
+            assert_eq!(write_number(&state, 0, code), 0, "{ctrl2} {code:02X}");
         }
         for address in [1, 2, 3, 5, 7, 8, 9, 10, 11] {
             assert_eq!(write_number(&state, address, 0x41), 0);

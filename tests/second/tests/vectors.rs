@@ -203,14 +203,37 @@ fn a_vector_taken_up_after_going_around() {
     assert_eq!(card.place(), (2, 0));
 }
 
-// reading 67: tilt and the turned bit do nothing to a vector
+// readings 67 and c.6: tilt and the turned bit do nothing to a vector
 #[test]
 fn character_bits_of_ctrl2() {
     for ctrl2 in [4, 8, 12] {
-        let mut card = centred();
-        card.write(2, ctrl2);
-        let dots = steps(card.deltas(5, 2), 0x11);
-        assert_eq!(dots, [(0, 0), (1, 0), (2, 1), (3, 1), (4, 2), (5, 2)]);
+        let drawn = |code| {
+            let mut card = centred();
+            steps(card.write(2, ctrl2).deltas(5, 2), code)
+        };
+        assert_eq!(drawn(0x11), [(0, 0), (1, 0), (2, 1), (3, 1), (4, 2), (5, 2)]);
+        assert_eq!(drawn(0x14), [(0, 0), (0, -1), (0, -2)]);
+        assert_eq!(drawn(0x1B), [(0, 0), (-1, 1), (-2, 2), (-3, 3), (-4, 4), (-5, 5)]);
+        assert_eq!(drawn(0x1E), [(0, 0), (-1, 0), (-2, 0), (-3, 0), (-4, 0), (-5, 0)]);
+        assert_eq!(drawn(0xE9), [(0, 0), (1, 0), (2, 1), (3, 1)]);
+        assert_eq!(drawn(0xBF), [(0, 0), (0, -1), (-1, -2), (-1, -3)]);
+    }
+}
+
+// reading c.6: every code at every line type, against the straight one
+#[test]
+fn tilt_changes_no_vector() {
+    for code in (0x10..=0x1F).chain(0x80..=0xFF) {
+        for line_type in 0..4 {
+            let drawn = |ctrl2| {
+                let mut card = centred();
+                let places = card.write(2, ctrl2).deltas(19, 7).places(code);
+                (places, card.dots(), card.place())
+            };
+            let straight = drawn(line_type);
+            assert_eq!(drawn(line_type + 4), straight, "{code:02X}");
+            assert_eq!(drawn(line_type + 12), straight, "{code:02X}");
+        }
     }
 }
 

@@ -7,14 +7,16 @@ use lib.Dec.{eqb}
 use lib.ListN.{replicate}
 use Rattle.basis.specs.Reading.{Reading, each, joined, told}
 use Rattle.motion.specs.declared.position.Spot.{Spot}
+use Rattle.motion.specs.declared.character.Lie.{Lie}
+use Rattle.motion.specs.Tables.Characters.{straight, upwards, slanted, slantedUp}
 use Rattle.drawing.specs.Figure.{Figure, Stroke, Cells, Pause, Nothing, cyclesOf, way, endWay, writes}
 
--- a vector by CTRL2, M, m, the longer axis and the signs; a body by P, Q, columns and rows
+-- a vector by CTRL2, M, m, the longer axis and the signs; a body by how it lies, P, Q, columns and rows
 unfoldable pub stroke : ℕ → ℕ → ℕ → Bool → Bool → Bool → Figure
 stroke ctrl2 M m steep left down = Stroke ctrl2 (record { long = M; short = m; steep = steep; left = left; down = down })
 
-unfoldable pub cells : Bool → ℕ → ℕ → ℕ → ℕ → Figure
-cells turned p q columns rows = Cells turned (record { p = p; q = q; columns = columns; rows = rows })
+unfoldable pub cells : Lie → ℕ → ℕ → ℕ → ℕ → Figure
+cells lie p q columns rows = Cells lie (record { p = p; q = q; columns = columns; rows = rows })
 
 unfoldable pub again : ℕ → List ℕ → List ℕ
 again n xs = joined (λ k. xs) 0 n
@@ -33,7 +35,8 @@ counts =
     -- an off dot uses its cycle, in every line type
     ∷ (joined (λ c. each (λ M. cyclesOf (stroke c M 0 false false false)) 0 33) 0 16, joined (λ c. each (λ n. n) 1 33) 0 16)
     ∷ (cyclesOf (stroke 0 255 7 true true true) ∷ cyclesOf (stroke 7 5 2 true false true) ∷ [], 256 ∷ 6 ∷ [])
-    ∷ (cyclesOf (cells false 2 3 12 24) ∷ cyclesOf (cells true 2 3 12 24) ∷ cyclesOf (cells false 16 16 96 128) ∷ [], 288 ∷ 288 ∷ 12288 ∷ [])
+    ∷ (cyclesOf (cells straight 2 3 12 24) ∷ cyclesOf (cells upwards 2 3 12 24) ∷ cyclesOf (cells straight 16 16 96 128) ∷ [], 288 ∷ 288 ∷ 12288 ∷ [])
+    ∷ (cyclesOf (cells slanted 2 3 12 24) ∷ cyclesOf (cells slantedUp 2 3 12 24) ∷ cyclesOf (cells slantedUp 16 16 96 128) ∷ [], 288 ∷ 288 ∷ 12288 ∷ [])
     ∷ (cyclesOf Pause ∷ cyclesOf Nothing ∷ [], 1 ∷ 0 ∷ [])
     ∷ []
 
@@ -48,10 +51,15 @@ ways =
       4096 ∷ 4096 ∷ 4096 ∷ 4095 ∷ 4095 ∷ 4094 ∷ 4095 ∷ 4093 ∷ 4094 ∷ 4092 ∷ 4094 ∷ 4091 ∷ [],
     )
     -- u and, within it, v; turned (−v, u)
-    ∷ (pairs (way (cells false 1 1 2 3)) 6, 0 ∷ 0 ∷ 0 ∷ 1 ∷ 0 ∷ 2 ∷ 1 ∷ 0 ∷ 1 ∷ 1 ∷ 1 ∷ 2 ∷ [])
-    ∷ (pairs (way (cells true 1 1 2 3)) 6, 4096 ∷ 0 ∷ 4095 ∷ 0 ∷ 4094 ∷ 0 ∷ 4096 ∷ 1 ∷ 4095 ∷ 1 ∷ 4094 ∷ 1 ∷ [])
-    ∷ (pair (way (cells false 16 16 96 128) 5000) ++ pair (way (cells false 16 16 96 128) 12287), 39 ∷ 8 ∷ 95 ∷ 127 ∷ [])
-    ∷ (pair (way (cells true 16 16 96 128) 5000) ++ pair (way (cells true 16 16 96 128) 12287), 4088 ∷ 39 ∷ 3969 ∷ 95 ∷ [])
+    ∷ (pairs (way (cells straight 1 1 2 3)) 6, 0 ∷ 0 ∷ 0 ∷ 1 ∷ 0 ∷ 2 ∷ 1 ∷ 0 ∷ 1 ∷ 1 ∷ 1 ∷ 2 ∷ [])
+    ∷ (pairs (way (cells upwards 1 1 2 3)) 6, 4096 ∷ 0 ∷ 4095 ∷ 0 ∷ 4094 ∷ 0 ∷ 4096 ∷ 1 ∷ 4095 ∷ 1 ∷ 4094 ∷ 1 ∷ [])
+    ∷ (pair (way (cells straight 16 16 96 128) 5000) ++ pair (way (cells straight 16 16 96 128) 12287), 39 ∷ 8 ∷ 95 ∷ 127 ∷ [])
+    ∷ (pair (way (cells upwards 16 16 96 128) 5000) ++ pair (way (cells upwards 16 16 96 128) 12287), 4088 ∷ 39 ∷ 3969 ∷ 95 ∷ [])
+    -- tilted, (u + v, v); turned too, (−v, u + v)
+    ∷ (pairs (way (cells slanted 1 1 2 3)) 6, 0 ∷ 0 ∷ 1 ∷ 1 ∷ 2 ∷ 2 ∷ 1 ∷ 0 ∷ 2 ∷ 1 ∷ 3 ∷ 2 ∷ [])
+    ∷ (pairs (way (cells slantedUp 1 1 2 3)) 6, 4096 ∷ 0 ∷ 4095 ∷ 1 ∷ 4094 ∷ 2 ∷ 4096 ∷ 1 ∷ 4095 ∷ 2 ∷ 4094 ∷ 3 ∷ [])
+    ∷ (pair (way (cells slanted 16 16 96 128) 5000) ++ pair (way (cells slanted 16 16 96 128) 12287), 47 ∷ 8 ∷ 222 ∷ 127 ∷ [])
+    ∷ (pair (way (cells slantedUp 16 16 96 128) 5000) ++ pair (way (cells slantedUp 16 16 96 128) 12287), 4088 ∷ 47 ∷ 3969 ∷ 222 ∷ [])
     -- all 256 dots of the longest vectors: down along Y, and on the slant to (−,+)
     ∷ (pairs (way (stroke 0 255 0 true false true)) 256, joined (λ i. 0 ∷ (4096 - i) ∷ []) 0 256)
     ∷ (pairs (way (stroke 2 255 255 false true false)) 256, joined (λ i. (4096 - i) ∷ i ∷ []) 0 256)
@@ -63,11 +71,14 @@ ways =
     ∷ (pair (endWay (stroke 3 5 2 true true true)), 4094 ∷ 4091 ∷ [])
     ∷ (pair (endWay (stroke 0 0 0 false false false)) ++ pair (endWay (stroke 0 0 0 false true true)), 0 ∷ 0 ∷ 4096 ∷ 4096 ∷ [])
     -- a character ends past its columns, Y restored; turned, X restored
-    ∷ (pair (endWay (cells false 2 3 12 24)) ++ pair (endWay (cells true 2 3 12 24)), 12 ∷ 0 ∷ 0 ∷ 12 ∷ [])
-    ∷ (pair (endWay (cells false 3 2 12 8)) ++ pair (endWay (cells true 3 2 12 8)), 12 ∷ 0 ∷ 0 ∷ 12 ∷ [])
+    ∷ (pair (endWay (cells straight 2 3 12 24)) ++ pair (endWay (cells upwards 2 3 12 24)), 12 ∷ 0 ∷ 0 ∷ 12 ∷ [])
+    ∷ (pair (endWay (cells straight 3 2 12 8)) ++ pair (endWay (cells upwards 3 2 12 8)), 12 ∷ 0 ∷ 0 ∷ 12 ∷ [])
+    -- tilted it ends there too
+    ∷ (pair (endWay (cells slanted 2 3 12 24)) ++ pair (endWay (cells slantedUp 2 3 12 24)), 12 ∷ 0 ∷ 0 ∷ 12 ∷ [])
+    ∷ (pair (endWay (cells slanted 3 2 12 8)) ++ pair (endWay (cells slantedUp 3 2 12 8)), 12 ∷ 0 ∷ 0 ∷ 12 ∷ [])
     -- the longest vectors and the largest character
     ∷ (pair (endWay (stroke 1 255 255 false true false)) ++ pair (endWay (stroke 0 200 100 true false true)), 3841 ∷ 255 ∷ 100 ∷ 3896 ∷ [])
-    ∷ (pair (endWay (cells false 16 16 96 128)) ++ pair (endWay (cells true 16 16 96 128)), 96 ∷ 0 ∷ 0 ∷ 96 ∷ [])
+    ∷ (pair (endWay (cells straight 16 16 96 128)) ++ pair (endWay (cells upwards 16 16 96 128)), 96 ∷ 0 ∷ 0 ∷ 96 ∷ [])
     ∷ (pair (endWay Pause) ++ pair (endWay Nothing), replicate 4 0)
     ∷ []
 
@@ -116,23 +127,26 @@ writing =
     )
     -- a character where its glyph has the dot, the sixth column blank: P 2 and Q 1, P 1 and Q 2, turned too
     ∷ (
-      wrote (cells false 2 1 12 8) glyph 96,
+      wrote (cells straight 2 1 12 8) glyph 96,
       again 2 column0 ++ again 2 column1 ++ again 2 column2 ++ again 2 column3 ++ again 2 column4 ++ replicate 16 0,
     )
     ∷ (
       joined (λ k. wrote (stroke 1 200 3 (eqb (k % 2) 1) (eqb (k / 2 % 2) 1) (eqb (k / 4) 1)) glyph 8) 0 8,
       again 16 (1 ∷ 1 ∷ 0 ∷ 0 ∷ []),
     )
-    ∷ (wrote (cells true 1 2 6 16) glyph 96, stretched 2 (column0 ++ column1 ++ column2 ++ column3 ++ column4 ++ replicate 8 0))
+    ∷ (wrote (cells upwards 1 2 6 16) glyph 96, stretched 2 (column0 ++ column1 ++ column2 ++ column3 ++ column4 ++ replicate 8 0))
+    -- tilted, the same cycles write
+    ∷ (wrote (cells slanted 1 2 6 16) glyph 96, wrote (cells straight 1 2 6 16) glyph 96)
+    ∷ (wrote (cells slantedUp 2 1 12 8) glyph 96, wrote (cells straight 2 1 12 8) glyph 96)
     -- at P 16 and Q 16 the cycles from 4,096 and 8,192 on are columns 2 and 4: their two bottom rows of 16; the last is blank
     ∷ (
-      told (writes (cells false 16 16 96 128) glyph 4096) ∷ told (writes (cells false 16 16 96 128) glyph 4128)
-          ∷ told (writes (cells false 16 16 96 128) glyph 8192) ∷ told (writes (cells false 16 16 96 128) glyph 8208)
-          ∷ told (writes (cells false 16 16 96 128) glyph 12287) ∷ [],
+      told (writes (cells straight 16 16 96 128) glyph 4096) ∷ told (writes (cells straight 16 16 96 128) glyph 4128)
+          ∷ told (writes (cells straight 16 16 96 128) glyph 8192) ∷ told (writes (cells straight 16 16 96 128) glyph 8208)
+          ∷ told (writes (cells straight 16 16 96 128) glyph 12287) ∷ [],
       0 ∷ 1 ∷ 0 ∷ 1 ∷ 0 ∷ [],
     )
     -- a block all on
-    ∷ (wrote (cells false 2 1 8 4) (replicate 5 255) 32, replicate 32 1)
+    ∷ (wrote (cells straight 2 1 8 4) (replicate 5 255) 32, replicate 32 1)
     -- one cycle without a dot
     ∷ (wrote Pause (replicate 5 255) 3 ++ wrote Nothing (replicate 5 255) 3, replicate 6 0)
     ∷ []

@@ -5,11 +5,16 @@ use Prim.Native.Nat.{ℕ, _+_, _-_, _*_, _≤_}
 use mathlib.Core.Bool.{Bool, true, false}
 use mathlib.Core.List.{List}
 use Rattle.picture.specs.Dot.{paint, gathered}
+use Rattle.motion.specs.declared.position.Spot.{Spot}
 use Rattle.motion.specs.declared.character.Body.{Body}
+use Rattle.motion.specs.declared.character.Lie.{Lie}
 use Rattle.motion.specs.declared.character.Cell.{Cell}
+use Rattle.motion.specs.Character.{along}
 use Rattle.motion.specs.Working.Cells.{Counts, OnPlace}
 use Rattle.drawing.specs.declared.tip.Tip.{Tip}
-use Rattle.drawing.specs.Working.Cycle.{markBox, bodyDot}
+use Rattle.drawing.specs.Figure.{Cells}
+use Rattle.drawing.specs.Run.{dotsFrom}
+use Rattle.drawing.specs.Working.Cycle.{markBox}
 
 -- n by m places, the lower left one at (x, y), are in the window, and neither X nor Y steps around within them
 pub record Inside (t : Tip) (x y n m : ℕ) : Type 0 where
@@ -18,31 +23,40 @@ pub record Inside (t : Tip) (x y n m : ℕ) : Type 0 where
   pub right : x + n ≤ 4096
   pub top : y + m ≤ 4096
 
--- a column of the glyph, P by all the rows from its cell up, is inside; turned, all the rows from it to the left by P
-abbrev pub Fits : Bool → Tip → Body → Cell → Type 0
-Fits false t b c = Inside t (c .x) (c .y) (b .p) (b .rows)
-Fits true t b c = (b .rows ≤ c .x + 1) × Inside t ((c .x + 1) - b .rows) (c .y) (b .rows) (b .p)
+-- a column of the glyph, all the rows from its cell up by so many dots along, is inside; turned, all the rows to the left of it
+abbrev pub fitsBy : Bool → Tip → ℕ → Body → Cell → Type 0
+fitsBy false t far b c = Inside t (c .at .x) (c .at .y) far (b .rows)
+fitsBy true t far b c = (b .rows ≤ c .at .x + 1) × Inside t ((c .at .x + 1) - b .rows) (c .at .y) (b .rows) far
 
--- the dots of m rows from row v on that are on alike
+-- it is P dots along, and tilted one more for each row but the first
+abbrev pub Fits : Lie → Tip → Body → Cell → Type 0
+Fits lie t b c = fitsBy (lie .turned) t (along lie (b .p) (b .rows - 1)) b c
+
+-- the dots of m rows from row v on of a turned column that are on alike: a box; tilted too, each row a line upwards
 abbrev pub bandDots : Bool → Tip → Body → Cell → Bool → ℕ → ℕ → List ℕ
-bandDots false t b c on v m = markBox t on (c .x) (c .y + v) (b .p) m
-bandDots true t b c on v m = markBox t on ((c .x + 1) - (v + m)) (c .y) m (b .p)
+bandDots false t b c on v m = markBox t on ((c .at .x + 1) - (v + m)) (c .at .y) m (b .p)
+bandDots true t b c on v m = gathered (λ k. markBox t on (c .at .x - k) (c .at .y + k) 1 (b .p)) v m
 
 -- a cell on the first cycle of a column of the glyph that is inside
-pub record AtFoot (t : Tip) (turned : Bool) (b : Body) (c : Cell) : Type 0 where
+pub record AtFoot (t : Tip) (lie : Lie) (b : Body) (c : Cell) : Type 0 where
   pub foot : c .v ≡ 0
   pub first : c .columndot ≡ 0
-  pub inside : Fits turned t b c
+  pub inside : Fits lie t b c
 
 -- such a cell, with all cycles of the column among those left
-pub record Whole (t : Tip) (turned : Bool) (b : Body) (c : Cell) (left : ℕ) : Type 0 where
+pub record Whole (t : Tip) (lie : Lie) (b : Body) (c : Cell) (left : ℕ) : Type 0 where
   pub granted : b .p * b .rows ≤ left
-  pub column : AtFoot t turned b c
+  pub column : AtFoot t lie b c
+
+-- the cycles of the column at cell c leave picture q of picture p
+abbrev pub Column : Tip → Lie → Body → List ℕ → Cell → List ℕ → List ℕ → Type 0
+Column t lie b glyph c p q =
+    (start : Spot) → OnPlace lie b start c → q ≡ paint (t .lit) (dotsFrom t (Cells lie b) glyph start (c .i) (b .p * b .rows)) p
 
 -- cell r is some cycles after cell c, none past `end`, and they leave picture q of picture p
-pub record Further (t : Tip) (turned : Bool) (b : Body) (glyph : List ℕ) (c r : Cell) (end : ℕ) (p q : List ℕ) : Type 0 where
+pub record Further (t : Tip) (lie : Lie) (b : Body) (glyph : List ℕ) (c r : Cell) (end : ℕ) (p q : List ℕ) : Type 0 where
   pub least : c .i ≤ r .i
   pub most : r .i ≤ end
   pub counts : Counts b r
-  pub place : (x y : ℕ) → OnPlace turned b x y c → OnPlace turned b x y r
-  pub picture : (x y : ℕ) → OnPlace turned b x y c → q ≡ paint (t .lit) (gathered (bodyDot t turned b glyph x y) (c .i) (r .i - c .i)) p
+  pub place : (start : Spot) → OnPlace lie b start c → OnPlace lie b start r
+  pub picture : (start : Spot) → OnPlace lie b start c → q ≡ paint (t .lit) (dotsFrom t (Cells lie b) glyph start (c .i) (r .i - c .i)) p

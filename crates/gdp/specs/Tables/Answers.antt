@@ -1,7 +1,7 @@
 -- What the calls answer over sixteen bytes: bytes that name nothing, refusals, the fresh state, VB's level.
 -- Assumes nothing.
 use Prim.Native.Nat.{ℕ, _+_, _-_, _*_, _^_}
-use mathlib.Core.Bool.{Bool, true, false}
+use mathlib.Core.Bool.{true, false}
 use mathlib.Core.List.{List, [], _∷_, _++_}
 use lib.ListN.{replicate}
 use Rattle.basis.specs.Reading.{Reading, each, joined, told}
@@ -9,7 +9,6 @@ use Rattle.parts.specs.declared.format.Format.the-variants.{FmatLow}
 use Rattle.rules.specs.Sequence.{Clear, Waiting}
 use Rattle.rules.specs.Calls.{Answer as Verdict, Located, readOut}
 use Rattle.rules.specs.Tables.Rows.{framesNamed}
-use Rattle.gdp.specs.declared.state.Gdp.{Gdp}
 use Rattle.gdp.specs.Flat.{stateOf}
 use Rattle.gdp.specs.Calls.{levelOf, flawed, refusal, answerOf, outputsOf, allOnes, freshAnswer}
 use Rattle.gdp.specs.Tables.Rows.{over, times, bytes, byteRow, answerRow, outputsRow}
@@ -49,11 +48,11 @@ flaws =
           ∷ flawedBy 0 0 0 16 0 ∷ flawedBy 0 0 0 0 2 ∷ [],
       0 ∷ 1 ∷ 1 ∷ 1 ∷ 1 ∷ 1 ∷ [],
     )
-    -- a command that takes no time; a progress below its cycles and not; a character with tilt high, and a vector
+    -- a command that takes no time; a progress below its cycles and not; a character and a vector with tilt high
     ∷ (
       flawedStep 0 0 0 ∷ flawedStep 0x04 0 0 ∷ flawedStep 0x41 47 0 ∷ flawedStep 0x41 48 0 ∷ flawedStep 0x11 5 0 ∷ flawedStep 0x11 6 0
           ∷ flawedStep 0x0F 0 0 ∷ flawedStep 0x0F 1 0 ∷ flawedStep 0x41 0 4 ∷ flawedStep 0x0B 0 4 ∷ flawedStep 0x11 0 4 ∷ [],
-      1 ∷ 1 ∷ 0 ∷ 1 ∷ 0 ∷ 1 ∷ 0 ∷ 1 ∷ 1 ∷ 1 ∷ 0 ∷ [],
+      1 ∷ 1 ∷ 0 ∷ 1 ∷ 0 ∷ 1 ∷ 0 ∷ 1 ∷ 0 ∷ 0 ∷ 0 ∷ [],
     )
     -- what is left over of a code and a progress is no matter, idle or while a clear runs
     ∷ (over (0 ∷ 1 ∷ 0x10 ∷ 0x32 ∷ 0x50 ∷ 0x70 ∷ []) (λ (m : ℕ). told (flawed (bytes 0 0 65535 0 0 0x11 0 0 0 0 255 m 0)) ∷ []), replicate 6 0)

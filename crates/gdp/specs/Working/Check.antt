@@ -3,10 +3,9 @@
 use Prim.Native.Nat.{ℕ}
 use mathlib.Core.Bool.{Bool, false, not, _&&_, _||_}
 use lib.Dec.{leb}
-use Rattle.parts.specs.Command.{kind, lettering}
 use Rattle.rules.specs.Sequence.{Work, Idle, Steps, Clear, clearOpen, lightPenOpen}
 use Rattle.rules.specs.State.{Regs}
-use Rattle.rules.specs.Figure.{cycles, tilted}
+use Rattle.rules.specs.Figure.{cycles}
 use Rattle.rules.specs.Refusals.{badRegs}
 use Rattle.gdp.specs.declared.state.Gdp.{Gdp}
 use Rattle.gdp.specs.Flat.{named, regsOf, stateOf}
@@ -16,9 +15,9 @@ unfoldable pub stray : Gdp → Bool
 stray b =
     not (named b) || badRegs (regsOf b) || (stateOf b .vb && (clearOpen (stateOf b .work) || lightPenOpen (stateOf b .lightPen)))
 
--- a stepping command cannot have come so far, or not with tilt high
+-- a stepping command cannot have come so far
 unfoldable pub badStep : Regs → ℕ → ℕ → Bool
-badStep r c p = leb (cycles r c) p || (lettering (kind c) && tilted r)
+badStep r c p = leb (cycles r c) p
 
 abbrev pub badSteps : Regs → Work → Bool
 badSteps r Idle = false

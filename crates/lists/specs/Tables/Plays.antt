@@ -89,11 +89,14 @@ plays = (
     ∷ (stateRow (done (at 0x43 0 7 8 Idle) (Command 0xE9 tt tt)), 0x43 ∷ 0 ∷ 0x11 ∷ 0 ∷ 0 ∷ 10 ∷ 9 ∷ 0 ∷ 0 ∷ 0 ∷ 1 ∷ [])
     ∷ (stateRow (taking (at 3 0 7 8 Idle) (Set 0x7 9 tt tt)), 3 ∷ 0 ∷ 0x11 ∷ 0 ∷ 9 ∷ 7 ∷ 8 ∷ 0 ∷ 0 ∷ 0 ∷ 0 ∷ [])
     ∷ (itemDots (at 3 0 7 0 Idle) lettered (Command 0xE9 tt tt) ++ itemDots (at 3 0 7 0 Idle) lettered (Set 0x7 9 tt tt), 7 ∷ 8 ∷ 521 ∷ 522 ∷ [])
-    -- refused, it leaves the state: a letter with tilt high; any item while a command runs, whose own cycles are then left
+    -- with tilt high: a letter, its only dot that of the first cycle; 0B, four by four, tilted and tilted upwards
     ∷ (
       stateRow (taking (at 3 4 7 8 Idle) (Command 0x41 tt tt)) ++ (stateRow (done (at 3 4 7 8 Idle) (Command 0x41 tt tt)) ++ itemDots (at 3 4 7 8 Idle) lettered (Command 0x41 tt tt)),
-      3 ∷ 4 ∷ 0x11 ∷ 0 ∷ 0 ∷ 7 ∷ 8 ∷ 0 ∷ 0 ∷ 0 ∷ 0 ∷ 3 ∷ 4 ∷ 0x11 ∷ 0 ∷ 0 ∷ 7 ∷ 8 ∷ 0 ∷ 0 ∷ 0 ∷ 0 ∷ [],
+      3 ∷ 4 ∷ 0x11 ∷ 0 ∷ 0 ∷ 7 ∷ 8 ∷ 1 ∷ 0x41 ∷ 0 ∷ 0 ∷ 3 ∷ 4 ∷ 0x11 ∷ 0 ∷ 0 ∷ 13 ∷ 8 ∷ 0 ∷ 0 ∷ 0 ∷ 0 ∷ 4103 ∷ [],
     )
+    ∷ (itemDots (at 3 4 7 0 Idle) lettered (Command 0x0B tt tt), joined (λ (u : ℕ). each (λ (v : ℕ). 513 * v + u) 0 4) 7 4)
+    ∷ (itemDots (at 3 0xC 7 0 Idle) lettered (Command 0x0B tt tt), joined (λ (u : ℕ). each (λ (v : ℕ). 511 * v + 512 * u + 7) 0 4) 0 4)
+    -- refused, it leaves the state: any item while a command runs, whose own cycles are then left
     ∷ (
       stateRow (taking (at 3 0 2 1 (Steps 0xE9 2)) (Set 0x7 9 tt tt)) ++ itemDots (at 3 0 2 1 (Steps 0xE9 2)) lettered (Set 0x7 9 tt tt),
       3 ∷ 0 ∷ 0x11 ∷ 0 ∷ 0 ∷ 2 ∷ 1 ∷ 1 ∷ 0xE9 ∷ 2 ∷ 0 ∷ 514 ∷ 515 ∷ [],

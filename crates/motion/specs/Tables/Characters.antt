@@ -1,14 +1,15 @@
 -- Readings of how a character steps, and of its glyph.
 -- Assumes nothing.
 use Prim.Native.Nat.{ℕ, _+_, _-_, _*_}
-use mathlib.Core.Bool.{Bool, true, false}
+use mathlib.Core.Bool.{true, false}
 use mathlib.Core.List.{List, [], _∷_, _++_, map}
 use lib.ListN.{replicate}
 use Rattle.basis.specs.Reading.{Reading, each, joined, told}
 use Rattle.motion.specs.declared.character.Body.{Body}
-use Rattle.motion.specs.Character.{scale, scaleP, scaleQ, characterOf, blockOf, bodyCycles, uOf, vOf, columnOf, rowOf, bodyX, bodyY, bodyEndX, bodyEndY}
+use Rattle.motion.specs.declared.character.Lie.{Lie}
+use Rattle.motion.specs.Character.{scale, scaleP, scaleQ, characterOf, blockOf, bodyCycles, uOf, vOf, columnOf, rowOf, lying, along, laid, bodyWay, bodyEnd}
 use Rattle.motion.specs.Glyph.{glyphOf, solidGlyph, inked}
-use Rattle.motion.specs.Tables.Positions.{again}
+use Rattle.motion.specs.Tables.Positions.{again, pair}
 
 -- the upper half of CSIZE from 0 to F, the lower within it: one of sixteen numbers by the upper half, by the lower
 unfoldable pub byUpper : List ℕ → List ℕ
@@ -89,6 +90,26 @@ broad = body 16 1 96 8
 unfoldable pub some : List ℕ
 some = 0 ∷ 15 ∷ 16 ∷ 127 ∷ 128 ∷ 255 ∷ 256 ∷ 2047 ∷ 2048 ∷ 4095 ∷ 12287 ∷ []
 
+-- the four ways that letters lie
+unfoldable pub straight : Lie
+straight = lying false false
+
+unfoldable pub upwards : Lie
+upwards = lying true false
+
+unfoldable pub slanted : Lie
+slanted = lying false true
+
+unfoldable pub slantedUp : Lie
+slantedUp = lying true true
+
+-- what a cycle's place adds to X, to Y
+unfoldable pub xs : Lie → Body → ℕ → ℕ
+xs lie b i = bodyWay lie b i .x
+
+unfoldable pub ys : Lie → Body → ℕ → ℕ
+ys lie b i = bodyWay lie b i .y
+
 -- u below the columns and, within it, v below the rows; glyph column u / P, row v / Q
 unfoldable pub cells : List Reading
 cells =
@@ -104,7 +125,6 @@ cells =
     ∷ (map (vOf largest) some, 0 ∷ 15 ∷ 16 ∷ 127 ∷ 0 ∷ 127 ∷ 0 ∷ 127 ∷ 0 ∷ 127 ∷ 127 ∷ [])
     ∷ (map (columnOf largest) some, 0 ∷ 0 ∷ 0 ∷ 0 ∷ 0 ∷ 0 ∷ 0 ∷ 0 ∷ 1 ∷ 1 ∷ 5 ∷ [])
     ∷ (map (rowOf largest) some, 0 ∷ 0 ∷ 1 ∷ 7 ∷ 0 ∷ 7 ∷ 0 ∷ 7 ∷ 0 ∷ 7 ∷ 7 ∷ [])
-    ∷ (map (bodyX true largest) some, 4096 ∷ 4081 ∷ 4080 ∷ 3969 ∷ 4096 ∷ 3969 ∷ 4096 ∷ 3969 ∷ 4096 ∷ 3969 ∷ 3969 ∷ [])
     -- the highest and narrowest, P 1 and Q 16, and the widest and lowest, P 16 and Q 1
     ∷ (cycles (columnOf narrow) narrow, stairs 128 6)
     ∷ (cycles (rowOf narrow) narrow, again 6 (stairs 16 8))
@@ -131,26 +151,58 @@ downTo n = each (λ k. 4096 - k) 0 n
 -- the place is (X + u, Y + v); turned, (X − v, Y + u); at the end past the columns, along X or, turned, along Y
 unfoldable pub cellWays : List Reading
 cellWays =
-    (cycles (bodyX false letter) letter, stairs 24 12)
-    ∷ (cycles (bodyY false letter) letter, again 12 (upTo 24))
-    ∷ (cycles (bodyX true letter) letter, again 12 (downTo 24))
-    ∷ (cycles (bodyY true letter) letter, stairs 24 12)
-    ∷ (bodyEndX false letter ∷ bodyEndY false letter ∷ bodyEndX true letter ∷ bodyEndY true letter ∷ [], 12 ∷ 0 ∷ 0 ∷ 12 ∷ [])
-    ∷ (bodyEndX false box ∷ bodyEndY false box ∷ bodyEndX true box ∷ bodyEndY true box ∷ [], 12 ∷ 0 ∷ 0 ∷ 12 ∷ [])
+    (cycles (xs straight letter) letter, stairs 24 12)
+    ∷ (cycles (ys straight letter) letter, again 12 (upTo 24))
+    ∷ (cycles (xs upwards letter) letter, again 12 (downTo 24))
+    ∷ (cycles (ys upwards letter) letter, stairs 24 12)
+    ∷ (pair (bodyEnd straight letter) ++ pair (bodyEnd upwards letter), 12 ∷ 0 ∷ 0 ∷ 12 ∷ [])
+    ∷ (pair (bodyEnd straight box) ++ pair (bodyEnd upwards box), 12 ∷ 0 ∷ 0 ∷ 12 ∷ [])
     -- of one as high as it is wide: a block with P and Q 1
-    ∷ (cycles (bodyX false (body 1 1 4 4)) (body 1 1 4 4) ++ cycles (bodyY false (body 1 1 4 4)) (body 1 1 4 4), stairs 4 4 ++ again 4 (upTo 4))
-    ∷ (cycles (bodyX true (body 1 1 4 4)) (body 1 1 4 4) ++ cycles (bodyY true (body 1 1 4 4)) (body 1 1 4 4), again 4 (downTo 4) ++ stairs 4 4)
+    ∷ (cycles (xs straight (body 1 1 4 4)) (body 1 1 4 4) ++ cycles (ys straight (body 1 1 4 4)) (body 1 1 4 4), stairs 4 4 ++ again 4 (upTo 4))
+    ∷ (cycles (xs upwards (body 1 1 4 4)) (body 1 1 4 4) ++ cycles (ys upwards (body 1 1 4 4)) (body 1 1 4 4), again 4 (downTo 4) ++ stairs 4 4)
     -- the same of a body that is wider than it is high, and of the largest
-    ∷ (cycles (bodyX false box) box, stairs 8 12)
-    ∷ (cycles (bodyY false box) box, again 12 (upTo 8))
-    ∷ (cycles (bodyX true box) box, again 12 (downTo 8))
-    ∷ (cycles (bodyY true box) box, stairs 8 12)
-    ∷ (
-      bodyEndX false largest ∷ bodyEndY false largest ∷ bodyEndX true largest ∷ bodyEndY true largest ∷ [],
-      96 ∷ 0 ∷ 0 ∷ 96 ∷ [],
-    )
-    ∷ (map (bodyX false largest) some, 0 ∷ 0 ∷ 0 ∷ 0 ∷ 1 ∷ 1 ∷ 2 ∷ 15 ∷ 16 ∷ 31 ∷ 95 ∷ [])
-    ∷ (map (bodyY true largest) some, 0 ∷ 0 ∷ 0 ∷ 0 ∷ 1 ∷ 1 ∷ 2 ∷ 15 ∷ 16 ∷ 31 ∷ 95 ∷ [])
+    ∷ (cycles (xs straight box) box, stairs 8 12)
+    ∷ (cycles (ys straight box) box, again 12 (upTo 8))
+    ∷ (cycles (xs upwards box) box, again 12 (downTo 8))
+    ∷ (cycles (ys upwards box) box, stairs 8 12)
+    ∷ (pair (bodyEnd straight largest) ++ pair (bodyEnd upwards largest), 96 ∷ 0 ∷ 0 ∷ 96 ∷ [])
+    ∷ (map (xs straight largest) some, 0 ∷ 0 ∷ 0 ∷ 0 ∷ 1 ∷ 1 ∷ 2 ∷ 15 ∷ 16 ∷ 31 ∷ 95 ∷ [])
+    ∷ (map (ys upwards largest) some, 0 ∷ 0 ∷ 0 ∷ 0 ∷ 1 ∷ 1 ∷ 2 ∷ 15 ∷ 16 ∷ 31 ∷ 95 ∷ [])
+    ∷ (map (xs upwards largest) some, 4096 ∷ 4081 ∷ 4080 ∷ 3969 ∷ 4096 ∷ 3969 ∷ 4096 ∷ 3969 ∷ 4096 ∷ 3969 ∷ 3969 ∷ [])
+    ∷ []
+
+-- k columns of n dots each, of which each starts one further than the one before
+unfoldable pub slope : ℕ → ℕ → List ℕ
+slope n k = joined (λ m. each (λ l. l) m n) 0 k
+
+-- tilted: (X + u + v, Y + v), each dot up one further, whatever Q is; turned too, (X − v, Y + u + v); the end as straight
+unfoldable pub slants : List Reading
+slants =
+    (each (along straight 5) 0 4 ++ each (along upwards 5) 0 4, replicate 8 5)
+    ∷ (each (along slanted 5) 0 4 ++ each (along slantedUp 5) 0 4, again 2 (5 ∷ 6 ∷ 7 ∷ 8 ∷ []))
+    ∷ (pair (laid straight 7 3) ++ pair (laid upwards 7 3), 7 ∷ 3 ∷ 4093 ∷ 7 ∷ [])
+    ∷ (pair (laid slanted 7 3) ++ pair (laid slantedUp 7 3), 10 ∷ 3 ∷ 4093 ∷ 10 ∷ [])
+    ∷ (pair (laid slanted 0 0) ++ pair (laid slantedUp 0 0), 0 ∷ 0 ∷ 4096 ∷ 0 ∷ [])
+    -- P 2 and Q 3: no two lines of a glyph's row stand above each other
+    ∷ (cycles (xs slanted letter) letter, slope 24 12)
+    ∷ (cycles (ys slanted letter) letter, again 12 (upTo 24))
+    ∷ (cycles (xs slantedUp letter) letter, again 12 (downTo 24))
+    ∷ (cycles (ys slantedUp letter) letter, slope 24 12)
+    -- a block, wider than it is high; one as high as it is wide
+    ∷ (cycles (xs slanted box) box, slope 8 12)
+    ∷ (cycles (ys slanted box) box, again 12 (upTo 8))
+    ∷ (cycles (xs slantedUp box) box, again 12 (downTo 8))
+    ∷ (cycles (ys slantedUp box) box, slope 8 12)
+    ∷ (cycles (xs slanted (body 1 1 4 4)) (body 1 1 4 4), 0 ∷ 1 ∷ 2 ∷ 3 ∷ 1 ∷ 2 ∷ 3 ∷ 4 ∷ 2 ∷ 3 ∷ 4 ∷ 5 ∷ 3 ∷ 4 ∷ 5 ∷ 6 ∷ [])
+    ∷ (cycles (ys slantedUp (body 1 1 4 4)) (body 1 1 4 4), 0 ∷ 1 ∷ 2 ∷ 3 ∷ 1 ∷ 2 ∷ 3 ∷ 4 ∷ 2 ∷ 3 ∷ 4 ∷ 5 ∷ 3 ∷ 4 ∷ 5 ∷ 6 ∷ [])
+    -- the largest: its last dot, 95 along and 127 up, is 222 along
+    ∷ (map (xs slanted largest) some, 0 ∷ 15 ∷ 16 ∷ 127 ∷ 1 ∷ 128 ∷ 2 ∷ 142 ∷ 16 ∷ 158 ∷ 222 ∷ [])
+    ∷ (map (ys slanted largest) some, 0 ∷ 15 ∷ 16 ∷ 127 ∷ 0 ∷ 127 ∷ 0 ∷ 127 ∷ 0 ∷ 127 ∷ 127 ∷ [])
+    ∷ (map (xs slantedUp largest) some, 4096 ∷ 4081 ∷ 4080 ∷ 3969 ∷ 4096 ∷ 3969 ∷ 4096 ∷ 3969 ∷ 4096 ∷ 3969 ∷ 3969 ∷ [])
+    ∷ (map (ys slantedUp largest) some, 0 ∷ 15 ∷ 16 ∷ 127 ∷ 1 ∷ 128 ∷ 2 ∷ 142 ∷ 16 ∷ 158 ∷ 222 ∷ [])
+    ∷ (pair (bodyEnd slanted letter) ++ pair (bodyEnd slantedUp letter), 12 ∷ 0 ∷ 0 ∷ 12 ∷ [])
+    ∷ (pair (bodyEnd slanted box) ++ pair (bodyEnd slantedUp box), 12 ∷ 0 ∷ 0 ∷ 12 ∷ [])
+    ∷ (pair (bodyEnd slanted largest) ++ pair (bodyEnd slantedUp largest), 96 ∷ 0 ∷ 0 ∷ 96 ∷ [])
     ∷ []
 
 -- the dots of a glyph, column after column from 0 to 6, in each the rows from 0 to 9

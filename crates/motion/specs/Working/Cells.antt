@@ -1,12 +1,13 @@
 -- A character's cell as the code steps it.
 -- Assumes nothing.
 use mathlib.Core.Path.{_≡_}
-use Prim.Native.Nat.{ℕ, _%_, _≤_, _<_}
-use mathlib.Core.Bool.{Bool}
+use Prim.Native.Nat.{_%_, _≤_, _<_}
+use Rattle.motion.specs.declared.position.Spot.{Spot}
 use Rattle.motion.specs.declared.character.Body.{Body}
+use Rattle.motion.specs.declared.character.Lie.{Lie}
 use Rattle.motion.specs.declared.character.Cell.{Cell}
-use Rattle.motion.specs.Position.{ahead}
-use Rattle.motion.specs.Character.{uOf, vOf, columnOf, rowOf, bodyX, bodyY}
+use Rattle.motion.specs.Position.{moved}
+use Rattle.motion.specs.Character.{uOf, vOf, columnOf, rowOf, bodyWay}
 
 -- sizes that CSIZE can give
 pub record Sized (b : Body) : Type 0 where
@@ -25,7 +26,6 @@ pub record Counts (b : Body) (c : Cell) : Type 0 where
   pub column : c .column ≡ columnOf b (c .i)
   pub columndot : c .columndot ≡ uOf b (c .i) % b .p
 
--- c stands on the place of its cycle, of a character that starts at (x₀, y₀)
-pub record OnPlace (turned : Bool) (b : Body) (x₀ y₀ : ℕ) (c : Cell) : Type 0 where
-  pub x : c .x ≡ ahead x₀ (bodyX turned b (c .i))
-  pub y : c .y ≡ ahead y₀ (bodyY turned b (c .i))
+-- c stands on the place of its cycle, of a character that starts at a place
+abbrev pub OnPlace : Lie → Body → Spot → Cell → Type 0
+OnPlace lie b start c = c .at ≡ moved start (bodyWay lie b (c .i))

@@ -121,11 +121,13 @@ played =
     (ofTries card, 82 ∷ 9 ∷ 51 ∷ 9 ∷ 49 ∷ 49 ∷ 10 ∷ 84 ∷ 9 ∷ 48 ∷ 10 ∷ e12-20)
     ∷ (ofTries drawing, e12 6 ++ (82 ∷ 9 ∷ 51 ∷ 9 ∷ 49 ∷ 49 ∷ 10 ∷ 84 ∷ 9 ∷ 52 ∷ 10 ∷ e12-20))
     ∷ (answerTo 12 drawing (Cycles 9) ++ answerTo 12 drawing (Read 0), 84 ∷ 9 ∷ 54 ∷ 10 ∷ 82 ∷ 9 ∷ 48 ∷ 9 ∷ 48 ∷ 49 ∷ 10 ∷ [])
-    -- each refused, with each number
+    -- each refused, with each number that a call gives
     ∷ (ofTries lost, joined (λ (k : ℕ). e12 1) 0 5 ++ e12-20)
     ∷ (answerTo 12 pictureless (Cycles 1) ++ (answerTo 12 pictureless (Blanking false) ++ answerTo 12 tableless (Cycles 1)), e12 2 ++ (e12 2 ++ e12 3))
     ∷ (answerTo 12 card (Write 4 1) ++ (answerTo 12 card (Read 6) ++ answerTo 12 card (Write 0xC 1)), e12 4 ++ (e12 4 ++ e12 5))
-    ∷ (answerTo 12 tilted (Write 0 0x41) ++ (answerTo 12 card (Edge 64 0) ++ answerTo 12 card (Edge 0 256)), e12 7 ++ (e12 8 ++ e12 8))
+    ∷ (answerTo 12 card (Edge 64 0) ++ answerTo 12 card (Edge 0 256), e12 8 ++ e12 8)
+    -- a tilted character is taken, and runs
+    ∷ (answerTo 12 tilted (Write 0 0x41) ++ (answerTo 12 (after tilted (Write 0 0x41 ∷ [])) (Cycles 99)), 84 ∷ 9 ∷ 52 ∷ 56 ∷ 10 ∷ [])
     ∷ (answerTo 7 card Malformed, 69 ∷ 9 ∷ 55 ∷ 9 ∷ 50 ∷ 48 ∷ 10 ∷ [])
     -- every address read on the fresh card: STATUS 05, CSIZE 11, the others 00, and 4 at 4, 6, E and F
     ∷ (

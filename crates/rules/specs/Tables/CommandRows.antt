@@ -4,7 +4,7 @@ use Prim.Native.Nat.{ℕ, _+_, _*_, max}
 use mathlib.Core.List.{List, [], _∷_, _++_}
 use lib.ListN.{getD, replicate}
 use Rattle.basis.specs.Reading.{Reading, each, joined, rows}
-use Rattle.rules.specs.Tables.Rows.{nth, but, writes, gives, refuses, rich}
+use Rattle.rules.specs.Tables.Rows.{nth, but, writes, gives, rich}
 
 -- CTRL1 by its bits 0, 1 and 6, the others being rest
 unfoldable pub ctrl1 : ℕ → ℕ → ℕ → ℕ → ℕ
@@ -58,16 +58,17 @@ shortCommands =
 unfoldable pub longCommands : List Reading
 longCommands =
     (joined (λ c. writes rich 0x0 c) 0x10 240, joined (λ c. gives 0 (but 10 1 (but 11 c rich))) 0x10 240)
-    -- with tilt high the characters are refused with 7; all others are not
+    -- with tilt high too, each way; no code is refused then
     ∷ (
-      each (λ c. nth 0 (writes (but 2 0x0E rich) 0x0 c)) 0 256,
-      replicate 10 0 ++ (7 ∷ 7 ∷ (replicate 20 0 ++ (replicate 96 7 ++ replicate 128 0))),
+      joined (λ c. writes (but 2 0x04 rich) 0x0 c ++ writes (but 2 0x0E rich) 0x0 c) 0x10 240,
+      joined (λ c. gives 0 (but 10 1 (but 11 c (but 2 0x04 rich))) ++ gives 0 (but 10 1 (but 11 c (but 2 0x0E rich)))) 0x10 240,
     )
-    ∷ (writes (but 2 0x04 rich) 0x0 0x41, refuses 7 (but 2 0x04 rich))
-    -- 4, 5 and 6 go before 7, and 7 is for CMD alone
+    ∷ (each (λ c. nth 0 (writes (but 2 0x0E rich) 0x0 c)) 0 256, replicate 256 0)
+    ∷ (writes (but 2 0x04 rich) 0x0 0x0B, gives 0 (but 10 1 (but 11 0x0B (but 2 0x04 rich))))
+    -- 4, 5 and 6 are given as without it
     ∷ (
       each (λ a. nth 0 (writes (but 2 0x04 rich) a 0x41)) 0 16,
-      7 ∷ 0 ∷ 0 ∷ 0 ∷ 4 ∷ 0 ∷ 4 ∷ 0 ∷ 0 ∷ 0 ∷ 0 ∷ 0 ∷ 5 ∷ 5 ∷ 4 ∷ 4 ∷ [],
+      0 ∷ 0 ∷ 0 ∷ 0 ∷ 4 ∷ 0 ∷ 4 ∷ 0 ∷ 0 ∷ 0 ∷ 0 ∷ 0 ∷ 5 ∷ 5 ∷ 4 ∷ 4 ∷ [],
     )
     ∷ (nth 0 (writes (but 2 0x04 (but 10 1 (but 11 0x80 rich))) 0x0 0x41) ∷ [], 6 ∷ [])
     ∷ []

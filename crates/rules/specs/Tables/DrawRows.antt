@@ -1,15 +1,15 @@
 -- Granted cycles on running commands: the used number, the whole row after them, and the dots; every code's cycles and its end.
 -- Assumes nothing.
-use Prim.Native.Nat.{ℕ, suc, _+_, _-_, _*_, _/_, _%_, min, max}
-use mathlib.Core.Bool.{Bool, true, false, cond, _||_, _&&_}
+use Prim.Native.Nat.{ℕ, _+_, _-_, _*_, _/_, _%_, min, max}
+use mathlib.Core.Bool.{Bool, true, false, cond, _&&_}
 use mathlib.Core.List.{List, [], _∷_, _++_}
-use lib.Dec.{eqb, ltb, leb}
+use lib.Dec.{ltb, leb}
 use lib.ListN.{length, getD, replicate, take, drop}
-use Rattle.basis.specs.Reading.{Reading, each, joined, rows, told}
+use Rattle.basis.specs.Reading.{Reading, each, joined, told}
 use Rattle.parts.specs.declared.format.Format.the-variants.{Ef9366}
-use Rattle.rules.specs.Figure.{Tables, tables, turned, tilted, glyph}
+use Rattle.rules.specs.Figure.{Tables, tables, lie, glyph}
 use Rattle.rules.specs.Cycles.{left, used, dots, after, penDown, lights, cyclic, tip}
-use Rattle.rules.specs.Tables.Rows.{nth, but, stated, shown, rich}
+use Rattle.rules.specs.Tables.Rows.{but, stated, shown, rich}
 
 -- a table of the numbers 0 to 479, and one whose glyph of code 41 has bits of its own in each column: 01, 82, 00, 40, 18
 unfoldable pub counted : Tables
@@ -71,12 +71,17 @@ fourTypes =
 unfoldable pub lineTypeRows : List Reading
 lineTypeRows = (joined dashed 0 16, joined (λ i. fourTypes) 0 4) ∷ []
 
--- code 41 at CSIZE 21, twice as wide as high, from (100, 50): column u and row v of cycle i, CTRL2 0A (upwards) and 02
+-- how much further row v lies with bit 2 of CTRL2 high
+unfoldable pub lean : ℕ → ℕ → ℕ
+lean c2 v = cond (ltb (c2 % 8) 4) 0 v
+
+-- code 41 at CSIZE 21, twice as wide as high, from (100, 50): column u and row v of cycle i, CTRL2 02, 06 (tilted), 0A (upwards), 0E
 unfoldable pub letter : ℕ → ℕ → ℕ → ℕ → List ℕ
 letter c2 p x y = but 2 c2 (but 3 0x21 (but 6 x (but 7 y (but 10 1 (but 11 0x41 (but 12 p rich))))))
 
 unfoldable pub letterAt : ℕ → ℕ → List ℕ
-letterAt c2 p = cond (ltb c2 8) (letter c2 p (100 + p / 8) (50 + p % 8)) (letter c2 p (100 - p % 8) (50 + p / 8))
+letterAt c2 p =
+    cond (ltb c2 8) (letter c2 p (100 + p / 8 + lean c2 (p % 8)) (50 + p % 8)) (letter c2 p (100 - p % 8) (50 + p / 8 + lean c2 (p % 8)))
 
 unfoldable pub letterAfter : ℕ → ℕ → ℕ → List ℕ
 letterAfter c2 p n =
@@ -91,7 +96,7 @@ unfoldable pub inkDots : ℕ → List (ℕ × ℕ) → ℕ → ℕ → List ℕ
 inkDots c2 [] p n = []
 inkDots c2 (d ∷ ds) p n =
     cond (leb p (8 * d .0 + d .1) && ltb (8 * d .0 + d .1) (p + n))
-    (cond (ltb c2 8) ((50 + d .1) * 512 + 100 + d .0) ((50 + d .0) * 512 + 100 - d .1) ∷ [])
+    (cond (ltb c2 8) ((50 + d .1) * 512 + 100 + d .0 + lean c2 (d .1)) ((50 + d .0 + lean c2 (d .1)) * 512 + 100 - d .1) ∷ [])
     []
     ++ inkDots c2 ds p n
 
@@ -150,14 +155,16 @@ vectorRan c2 d n m =
     let k = 1 + max (farX d n) (farY d m) in
     ended c2 k (endX d n) (endY d m) (k ∷ (endY d m * 512 + endX d n) ∷ [])
 
--- a character of every dot: 5 of its 6 columns, the last dot at the top of the fifth; turned, at its left
+-- a character of every dot: 5 of its 6 columns, the last dot at the top of the fifth; turned, at its left; its end as ever
 unfoldable pub letterRan : ℕ → List ℕ
 letterRan c2 =
-    cond (ltb c2 8) (ended c2 288 312 200 (240 ∷ (223 * 512 + 309) ∷ [])) (ended c2 288 300 212 (240 ∷ (209 * 512 + 277) ∷ []))
+    cond (ltb c2 8) (ended c2 288 312 200 (240 ∷ (223 * 512 + 309 + lean c2 23) ∷ []))
+    (ended c2 288 300 212 (240 ∷ ((209 + lean c2 23) * 512 + 277) ∷ []))
 
 unfoldable pub blockRan : ℕ → List ℕ
 blockRan c2 =
-    cond (ltb c2 8) (ended c2 96 308 200 (96 ∷ (211 * 512 + 307) ∷ [])) (ended c2 96 300 208 (96 ∷ (207 * 512 + 289) ∷ []))
+    cond (ltb c2 8) (ended c2 96 308 200 (96 ∷ (211 * 512 + 307 + lean c2 11) ∷ []))
+    (ended c2 96 300 208 (96 ∷ ((207 + lean c2 11) * 512 + 289) ∷ []))
 
 unfoldable pub codes : ℕ → List Reading
 codes c2 =
@@ -196,8 +203,8 @@ ctrl1Bits =
 -- CTRL2 bit 2 tilts, bit 3 turns
 unfoldable pub ctrl2Bits : List Reading
 ctrl2Bits =
-    (each (λ c2. told (tilted ((stated (but 2 c2 rich)) .regs))) 0 16, joined (λ i. replicate 4 0 ++ replicate 4 1) 0 2)
-    ∷ (each (λ c2. told (turned ((stated (but 2 c2 rich)) .regs))) 0 16, replicate 8 0 ++ replicate 8 1)
+    (each (λ c2. told (lie ((stated (but 2 c2 rich)) .regs) .tilted)) 0 16, joined (λ i. replicate 4 0 ++ replicate 4 1) 0 2)
+    ∷ (each (λ c2. told (lie ((stated (but 2 c2 rich)) .regs) .turned)) 0 16, replicate 8 0 ++ replicate 8 1)
     -- the glyphs of 20 to 7F are the table's bytes in order; 0A and 0B have every dot
     ∷ (joined (glyph counted) 0x20 96, each (λ n. n) 0 480)
     ∷ (glyph counted 0x0A ++ glyph counted 0x0B, replicate 10 255)
@@ -209,9 +216,16 @@ strokeRows = strokes 0x05 true ++ (strokes 0x43 true ++ strokes 0x7E false)
 unfoldable pub letterRows : List Reading
 letterRows = letters 0x02 ++ letters 0x0A
 
+unfoldable pub slantedLetterRows : List Reading
+slantedLetterRows = letters 0x06 ++ letters 0x0E
+
 -- upwards too; line types have no part in cycles and ends
 unfoldable pub turnedRows : List Reading
 turnedRows = codes 0x08
+
+-- tilted, and tilted upwards
+unfoldable pub slantedRows : List Reading
+slantedRows = codes 0x04 ++ codes 0x0C
 
 -- all characters, whose dots are the glyph's business; all short vectors
 unfoldable pub codeRows : List Reading

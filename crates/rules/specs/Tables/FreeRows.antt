@@ -65,8 +65,8 @@ freeWrites =
     ∷ (writes flagged 0x1 0x00, gives 0 (but 1 0 flagged))
     -- 07 puts CSIZE to 11 whatever it was
     ∷ (each (λ s. nth 5 (writes (but 3 s rich) 0x0 0x07)) 0 256, replicate 256 0x11)
-    -- 7 under every CTRL2 whose bit 2 is high
-    ∷ (each (λ c2. nth 0 (writes (but 2 c2 rich) 0x0 0x41)) 0 16, joined (λ i. replicate 4 0 ++ replicate 4 7) 0 2)
+    -- a character is taken under every CTRL2
+    ∷ (each (λ c2. nth 0 (writes (but 2 c2 rich) 0x0 0x41)) 0 16, replicate 16 0)
     -- X and Y take all twelve bits on a cyclic screen too
     ∷ (
       writes (but 1 0x08 rich) 0x8 0x0F ++ (writes (but 1 0x08 rich) 0x9 0xFF ++ (writes (but 1 0x08 rich) 0xA 0x0F ++ writes (but 1 0x08 rich) 0xB 0xFF)),
@@ -288,6 +288,27 @@ freeGrants =
     ∷ (joined (stands 0x0B) 0 26, joined (λ n. (300 + n / 12) ∷ (200 + n % 12) ∷ []) 0 26)
     ∷ (joined (stands 0xE9) 0 5, 300 ∷ 200 ∷ 301 ∷ 200 ∷ 302 ∷ 201 ∷ 303 ∷ 201 ∷ 303 ∷ 201 ∷ [])
     ∷ (joined (stands 0x16) 0 7, 300 ∷ 200 ∷ 299 ∷ 200 ∷ 298 ∷ 200 ∷ 297 ∷ 200 ∷ 296 ∷ 200 ∷ 295 ∷ 200 ∷ 295 ∷ 200 ∷ [])
+    -- slanted at every CSIZE, a character and a block, every character, and in every format: after one cycle one further
+    ∷ (
+      each (λ s. nth 6 (shown (after (stated (but 3 s (any 0x04 0x41))) 1))) 0 256
+          ++ (each (λ s. nth 6 (shown (after (stated (but 3 s (any 0x04 0x0B))) 1))) 0 256
+          ++ (each (λ c. nth 6 (shown (after (stated (any 0x04 c)) 1))) 0x20 96
+          ++ each (λ f. nth 6 (shown (after (stated (but 0 f (any 0x04 0x41))) 1))) 0 3)),
+      replicate 611 301,
+    )
+    ∷ (
+      each (λ s. nth 7 (shown (after (stated (but 3 s (any 0x0C 0x41))) 1))) 0 256
+          ++ (each (λ s. nth 7 (shown (after (stated (but 3 s (any 0x0C 0x0B))) 1))) 0 256
+          ++ (each (λ c. nth 7 (shown (after (stated (any 0x0C c)) 1))) 0x20 96
+          ++ each (λ f. nth 7 (shown (after (stated (but 0 f (any 0x0C 0x41))) 1))) 0 3)),
+      replicate 611 201,
+    )
+    -- its dots with FMAT high and with FMAT low, whose lines are 256 dots
+    ∷ (
+      dots (stated (but 0 1 (but 1 0x03 (letter 0x06 0 100 50)))) lettered 96 ++ dots (stated (but 0 2 (but 1 0x03 (letter 0x06 0 100 50)))) lettered 96,
+      25700 ∷ 25701 ∷ 26215 ∷ 29293 ∷ 26216 ∷ 29294 ∷ 28784 ∷ 28785 ∷ 27247 ∷ 27760 ∷ 27248 ∷ 27761
+          ∷ 12900 ∷ 12901 ∷ 13159 ∷ 14701 ∷ 13160 ∷ 14702 ∷ 14448 ∷ 14449 ∷ 13679 ∷ 13936 ∷ 13680 ∷ 13937 ∷ [],
+    )
     ∷ []
 
 -- Refusals ------------------------------------------------------------------------------------------------------------
@@ -299,8 +320,8 @@ freeRefusals =
     ∷ (each (λ c. (written (stated (but 2 0x04 (but 6 4096 rich))) 0x0 c) .number) 0 256, replicate 256 1)
     -- and of a read, at each address, and of an edge with both past the screen
     ∷ (each (λ a. nth 0 (reads (but 6 4096 rich) a)) 0 16 ++ (nth 0 (strikes (but 6 4096 rich) 64 256) ∷ []), replicate 17 1)
-    -- a character runs under every CTRL2 whose bit 2 is low
-    ∷ (each (λ c2. flaw (but 2 c2 (but 10 1 (but 11 0x41 rich)))) 0 16, joined (λ i. replicate 4 0 ++ replicate 4 1) 0 2)
+    -- a character runs under every CTRL2
+    ∷ (each (λ c2. flaw (but 2 c2 (but 10 1 (but 11 0x41 rich)))) 0 16, replicate 16 0)
     -- 2 goes before 3 while a command runs, too; while a clear waits or is in its frame, 2 and 3 as ever
     ∷ (lent 0 1 16383 479 ++ (lent 0 2 16383 479 ++ (lent 0 2 16384 479 ++ lent 0 2 16384 480)), 2 ∷ 2 ∷ 2 ∷ 2 ∷ 3 ∷ 0 ∷ 0 ∷ 0 ∷ [])
     ∷ (

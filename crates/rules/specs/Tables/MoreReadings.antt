@@ -254,11 +254,6 @@ characters =
     ∷ (ends card (from 4090 4000 (W 3 0 ∷ W 0 0x41 ∷ T 896 ∷ T 65535 ∷ [])), 90 ∷ 4000 ∷ [])
     ∷ (ends card (from 100 4090 (W 2 8 ∷ W 3 0 ∷ W 0 0x41 ∷ T 127 ∷ [])), 4069 ∷ 4090 ∷ [])
     ∷ (ends card (from 100 4090 (W 2 8 ∷ W 3 0 ∷ W 0 0x41 ∷ T 127 ∷ T 65535 ∷ [])), 100 ∷ 90 ∷ [])
-    -- tilt: 7 for every character command, idle; a vector is taken
-    ∷ (
-      said card (W 2 4 ∷ W 0 0x20 ∷ W 0 0x7F ∷ W 0 0x0A ∷ W 0 0x0B ∷ R 0 ∷ W 0 0x80 ∷ W 0 0x41 ∷ W 0xC 0 ∷ []),
-      1007 ∷ 1007 ∷ 1007 ∷ 1007 ∷ 0x05 ∷ 1006 ∷ 1005 ∷ [],
-    )
     ∷ []
 
 -- Address outputs -----------------------------------------------------------------------------------------------------
@@ -354,10 +349,12 @@ states =
     ∷ (six (running 0 0x41 48), refused)
     ∷ (six (running 0 0x0B 15), takenBusy)
     ∷ (six (running 0 0x0B 16), refused)
-    -- a running character with tilt high; a vector and 0F may run so
-    ∷ (six (running 4 0x20 0), refused)
-    ∷ (six (running 4 0x0A 0), refused)
-    ∷ (six (running 4 0x0B 0), refused)
+    -- with tilt high a character may run as a vector and 0F may
+    ∷ (six (running 4 0x20 0), takenBusy)
+    ∷ (six (running 4 0x0A 47), takenBusy)
+    ∷ (six (running 4 0x0A 48), refused)
+    ∷ (six (running 4 0x0B 15), takenBusy)
+    ∷ (six (running 4 0x0B 16), refused)
     ∷ (six (running 4 0x11 0), takenBusy)
     ∷ (six (running 4 0x0F 0), takenBusy)
     -- VB high inside an open frame

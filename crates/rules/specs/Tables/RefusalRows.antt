@@ -1,16 +1,16 @@
 -- Every cause of refusal, at its edge: each number of each call, and what a refusal leaves.
 -- Assumes nothing.
-use Prim.Native.Nat.{ℕ, suc, _+_, _-_, _*_, max}
-use mathlib.Core.Bool.{Bool, true, false}
+use Prim.Native.Nat.{ℕ, _+_, _-_, max}
+use mathlib.Core.Bool.{true, false}
 use mathlib.Core.List.{List, [], _∷_, _++_}
 use lib.ListN.{getD, replicate}
 use Rattle.basis.specs.Reading.{Reading, each, joined, told}
 use Rattle.rules.specs.State.{State}
 use Rattle.rules.specs.Figure.{tables}
 use Rattle.rules.specs.Refusals.{bad}
-use Rattle.rules.specs.Calls.{Memory, memory, Outcome, Located, answer, outcome, written, readOut, granted, blanked, struck, located}
+use Rattle.rules.specs.Calls.{memory, Outcome, Located, answer, outcome, written, readOut, granted, blanked, struck, located}
 use Rattle.rules.specs.Card.{Card, Event, W, R, T, VB, LP, next}
-use Rattle.rules.specs.Tables.Rows.{nth, but, stated, shown, answered, rich}
+use Rattle.rules.specs.Tables.Rows.{but, stated, shown, answered, rich}
 
 -- whether the state of a row is refused with 1
 unfoldable pub flaw : List ℕ → ℕ
@@ -40,7 +40,7 @@ flaws =
     ∷ but 8 2 rich
     ∷ but 10 1 (but 11 0x08 rich)
     ∷ but 10 1 (but 11 0x0F (but 12 1 rich))
-    ∷ but 2 0x04 (but 10 1 (but 11 0x20 rich))
+    ∷ but 2 0x04 (but 10 1 (but 11 0x20 (but 12 65535 rich)))
     ∷ but 10 2 (but 14 1 (but 16 1 rich))
     ∷ but 15 2 (but 16 1 rich)
     ∷ []
@@ -71,7 +71,7 @@ lengths =
 unfoldable pub lengthOf : ℕ → ℕ
 lengthOf c = getD lengths c 0
 
--- a progress below the count is good, the count itself is not; a code without cycles never is; a character is not with tilt high
+-- a progress below the count is good, the count itself is not; a code without cycles never is; tilted or not
 unfoldable pub progress : List Reading
 progress = (
   each (λ c. flaw (doing 0 c (lengthOf c - 1))) 0 256,
@@ -79,16 +79,11 @@ progress = (
 )
     ∷ (each (λ c. flaw (doing 0 c (lengthOf c))) 0 256, replicate 256 1)
     ∷ (each (λ c. flaw (doing 0xB c 0)) 0 256, replicate 10 1 ++ (0 ∷ 0 ∷ 1 ∷ 1 ∷ 1 ∷ replicate 241 0))
-    ∷ (
-      each (λ c. flaw (doing 0x4 c 0)) 0 256,
-      replicate 15 1 ++ (replicate 17 0 ++ (replicate 96 1 ++ replicate 128 0)),
-    )
-    -- past the count as at it; tilted and turned, at its last cycle, as tilted alone
+    ∷ (each (λ c. flaw (doing 0x4 c 0)) 0 256, replicate 10 1 ++ (0 ∷ 0 ∷ 1 ∷ 1 ∷ 1 ∷ replicate 241 0))
+    ∷ (each (λ c. flaw (doing 0x4 c (lengthOf c))) 0 256, replicate 256 1)
+    -- past the count as at it; tilted and turned, at its last cycle, as untilted
     ∷ (each (λ c. flaw (doing 0 c (lengthOf c + 1))) 0 256 ++ each (λ c. flaw (doing 0 c 65535)) 0 256, replicate 512 1)
-    ∷ (
-      each (λ c. flaw (doing 0xC c (lengthOf c - 1))) 0 256,
-      replicate 15 1 ++ (replicate 17 0 ++ (replicate 96 1 ++ replicate 128 0)),
-    )
+    ∷ (each (λ c. flaw (doing 0xC c (lengthOf c - 1))) 0 256, replicate 10 1 ++ (0 ∷ 0 ∷ 1 ∷ 1 ∷ 1 ∷ replicate 241 0))
     ∷ []
 
 -- pictures and tables one byte short and one too long, in each format; idle, with no cycle asked, or not

@@ -2,13 +2,12 @@
 -- lead from the test to the record and back.
 -- Assumes nothing.
 use mathlib.Core.Path.{_≡_}
-use Prim.Native.Nat.{ℕ, _≤_, _<_}
+use Prim.Native.Nat.{_≤_, _<_}
 use mathlib.Core.Bool.{Bool, false, _&&_}
 use Rattle.picture.specs.Bit.{bitAt}
-use Rattle.parts.specs.Command.{kind, lettering}
 use Rattle.rules.specs.Sequence.{Work, Idle, Steps, Clear, lightPenOpen}
 use Rattle.rules.specs.State.{Regs, State}
-use Rattle.rules.specs.Figure.{cycles, tilted}
+use Rattle.rules.specs.Figure.{cycles}
 
 -- X and Y have 12 bits, CTRL1 7, CTRL2 4; bit 1 of XLP is low
 pub record GoodRegs (r : Regs) : Type 0 where
@@ -18,15 +17,10 @@ pub record GoodRegs (r : Regs) : Type 0 where
   pub ctrl2 : r .ctrl2 ≤ 15
   pub xlp : bitAt 1 (r .xlp) ≡ false
 
--- a command of code c that has used p cycles has one left, and is no character with tilt high
-pub record GoodSteps (r : Regs) (c p : ℕ) : Type 0 where
-  pub left : p < cycles r c
-  pub upright : (lettering (kind c) && tilted r) ≡ false
-
--- VB is low inside an open frame of a clear
+-- a command of code c that has used p cycles has one left; VB is low inside an open frame of a clear
 abbrev pub GoodWork : Regs → Bool → Work → Type 0
 GoodWork r vb Idle = Unit {0}
-GoodWork r vb (Steps c p) = GoodSteps r c p
+GoodWork r vb (Steps c p) = p < cycles r c
 GoodWork r vb (Clear f o) = (vb && o .inside) ≡ false
 
 -- and inside an open frame of the pen

@@ -8,7 +8,7 @@ pub enum Figures {
     /// Vectors of 255 dots, two slopes in each quadrant.
     Vectors { ctrl1: u8, line_type: u8, start: Start },
     /// Ten characters side by side.
-    Letters { ctrl1: u8, csize: u8 },
+    Letters { ctrl1: u8, ctrl2: u8, csize: u8 },
     /// 0A and 0B, twice each.
     Blocks { csize: u8 },
 }
@@ -27,8 +27,13 @@ pub const DOWN: u8 = 0x03;
 pub const UP: u8 = 0x02;
 pub const CYCLIC: u8 = 0x0B;
 
+/// CTRL2: characters straight, slanted, and slanted upwards.
+pub const STRAIGHT: u8 = 0x00;
+pub const SLANTED: u8 = 0x04;
+pub const SLANTED_UP: u8 = 0x0C;
+
 pub const VECTORS: Figures = Figures::Vectors { ctrl1: DOWN, line_type: 0, start: Start::Inside };
-pub const LETTERS: Figures = Figures::Letters { ctrl1: DOWN, csize: 0x11 };
+pub const LETTERS: Figures = Figures::Letters { ctrl1: DOWN, ctrl2: STRAIGHT, csize: 0x11 };
 
 /// A vector's code, and where the vectors that stay inside begin.
 const QUADRANTS: [(u8, u16, u16); 4] = [(0x11, 100, 0), (0x13, 400, 0), (0x15, 100, 255), (0x17, 400, 255)];
@@ -40,11 +45,17 @@ impl Figures {
     pub fn cards<R: Runner>(self) -> Vec<R> {
         match self {
             Figures::Vectors { ctrl1, line_type, start } => vectors(ctrl1, line_type, start),
-            Figures::Letters { ctrl1, csize } => {
+            Figures::Letters { ctrl1, ctrl2, csize } => {
+                // those that run upwards have their rows to the left
+                let first = if ctrl2 < 8 { 5 } else { 133 };
                 let places = CHARACTERS.iter().enumerate();
-                places.map(|(i, code)| character(ctrl1, csize, 5 + 37 * i as u16, *code)).collect()
+                places
+                    .map(|(i, code)| character((ctrl1, ctrl2, csize), first + 37 * i as u16, *code))
+                    .collect()
             }
-            Figures::Blocks { csize } => BLOCKS.map(|(x, code)| character(DOWN, csize, x, code)).into(),
+            Figures::Blocks { csize } => {
+                BLOCKS.map(|(x, code)| character((DOWN, STRAIGHT, csize), x, code)).into()
+            }
         }
     }
 
@@ -92,8 +103,8 @@ fn across(code: u8, flat: bool) -> (u16, u16) {
     }
 }
 
-fn character<R: Runner>(ctrl1: u8, csize: u8, x: u16, code: u8) -> R {
-    set(at(x, 60), &[(1, ctrl1), (3, csize), (0, code)])
+fn character<R: Runner>((ctrl1, ctrl2, csize): (u8, u8, u8), x: u16, code: u8) -> R {
+    set(at(x, 60), &[(1, ctrl1), (2, ctrl2), (3, csize), (0, code)])
 }
 
 fn at<R: Runner>(x: u16, y: u16) -> R {

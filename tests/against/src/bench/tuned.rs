@@ -1,7 +1,7 @@
 //! A card tuned by hand, as the mark to be measured against. It keeps the error term of a vector and the cell
 //! of a character instead of finding them again, steps the number of a dot, clips a command once where it can,
 //! and paints scaled characters by rows. Of the checks it keeps those a careful programmer would: lengths,
-//! addresses, busy, tilt. It has no clears, no VB and no pen: for a clear the mark is a plain fill.
+//! addresses, busy. It has no clears, no VB and no pen: for a clear the mark is a plain fill.
 
 mod character;
 pub mod pbm;
@@ -74,7 +74,7 @@ impl Tuned {
             return 6;
         }
         match address {
-            0 => return self.command(value),
+            0 => self.command(value),
             1 => self.ctrl1 = value & 0x7F,
             2 => self.ctrl2 = value & 0x0F,
             3 => self.csize = value,
@@ -114,15 +114,13 @@ impl Tuned {
         1 | u8::from(!self.busy()) << 2 | u8::from(outside) << 3 | ready << 6 | ready << 7
     }
 
-    fn command(&mut self, code: u8) -> u8 {
+    fn command(&mut self, code: u8) {
         match code {
             0x10..=0x1F | 0x80..=0xFF => self.running = Running::Vector(VectorRun::new(self, code)),
-            0x0A | 0x0B | 0x20..=0x7F if self.ctrl2 & TILT != 0 => return 7,
             0x0A | 0x0B | 0x20..=0x7F => self.running = Running::Character(CharacterRun::new(self, code)),
             0x0F => self.running = Running::OneCycle,
             _ => self.at_once(code),
         }
-        0
     }
 
     fn at_once(&mut self, code: u8) {

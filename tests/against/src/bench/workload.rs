@@ -1,6 +1,8 @@
 //! What is timed: each workload is one pass over a scene, the same for every contender.
 
-use super::figures::{set, Figures, Start, CYCLIC, DOWN, LETTERS, UP, VECTORS};
+use super::figures::{
+    set, Figures, Start, CYCLIC, DOWN, LETTERS, SLANTED, SLANTED_UP, STRAIGHT, UP, VECTORS,
+};
 use super::morning;
 use super::runner::Runner;
 use crate::draw::arguments::{bytes, file_bytes};
@@ -39,17 +41,21 @@ pub enum Dots {
 }
 
 /// By name, what it is, and the unit its time is given for.
-pub const ALL: [(&str, Workload, &str); 26] = [
+pub const ALL: [(&str, Workload, &str); 30] = [
     ("long-vectors", Workload::Whole(VECTORS), "cycle"),
     ("dotted", Workload::Whole(vectors(DOWN, 3, Start::Inside)), "cycle"),
     ("pen-up", Workload::Whole(vectors(UP, 0, Start::Inside)), "cycle"),
     ("half-outside", Workload::Whole(vectors(DOWN, 0, Start::Across)), "cycle"),
     ("cyclic", Workload::Whole(vectors(CYCLIC, 0, Start::Across)), "cycle"),
     ("short-vectors", Workload::ShortVectors, "vector"),
-    ("csize-11", Workload::Whole(letters(DOWN, 0x11)), "cycle"),
-    ("csize-44", Workload::Whole(letters(DOWN, 0x44)), "cycle"),
-    ("csize-00", Workload::Whole(letters(DOWN, 0x00)), "cycle"),
-    ("pen-up-letters", Workload::Whole(letters(UP, 0x11)), "cycle"),
+    ("csize-11", Workload::Whole(letters(DOWN, STRAIGHT, 0x11)), "cycle"),
+    ("csize-44", Workload::Whole(letters(DOWN, STRAIGHT, 0x44)), "cycle"),
+    ("csize-00", Workload::Whole(letters(DOWN, STRAIGHT, 0x00)), "cycle"),
+    ("slanted-11", Workload::Whole(letters(DOWN, SLANTED, 0x11)), "cycle"),
+    ("slanted-44", Workload::Whole(letters(DOWN, SLANTED, 0x44)), "cycle"),
+    ("slanted-up-11", Workload::Whole(letters(DOWN, SLANTED_UP, 0x11)), "cycle"),
+    ("slanted-up-44", Workload::Whole(letters(DOWN, SLANTED_UP, 0x44)), "cycle"),
+    ("pen-up-letters", Workload::Whole(letters(UP, STRAIGHT, 0x11)), "cycle"),
     ("blocks-11", Workload::Whole(Figures::Blocks { csize: 0x11 }), "cycle"),
     ("blocks-44", Workload::Whole(Figures::Blocks { csize: 0x44 }), "cycle"),
     ("one-cycle", Workload::Portions(VECTORS, 1), "call"),
@@ -72,8 +78,8 @@ const fn vectors(ctrl1: u8, line_type: u8, start: Start) -> Figures {
     Figures::Vectors { ctrl1, line_type, start }
 }
 
-const fn letters(ctrl1: u8, csize: u8) -> Figures {
-    Figures::Letters { ctrl1, csize }
+const fn letters(ctrl1: u8, ctrl2: u8, csize: u8) -> Figures {
+    Figures::Letters { ctrl1, ctrl2, csize }
 }
 
 pub struct Scene<R> {

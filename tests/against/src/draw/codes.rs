@@ -80,8 +80,3 @@ pub fn stepping(random: &mut Random) -> u8 {
     ]);
     in_class(random, class)
 }
-
-/// These are refused, and impossible while running, with tilt high.
-pub fn is_tiltable(code: u8) -> bool {
-    matches!(class_of(code), Class::Character | Class::Block)
-}

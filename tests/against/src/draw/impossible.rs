@@ -2,13 +2,13 @@
 
 use super::codes::{self, Class};
 use super::count;
-use super::states::{good, registers, running, settled, FORMATS, TILT};
+use super::states::{good, registers, running, settled, FORMATS};
 use crate::random::Random;
 use second::{ClearKind, Format, Pen, State, Work};
 
 type Planted = fn(&mut Random) -> State;
 
-pub const CAUSES: [(&str, Planted); 33] = [
+pub const CAUSES: [(&str, Planted); 30] = [
     ("X above 4095", |random| State { x: random.among(4096, 65_535), ..good(random) }),
     ("Y above 4095", |random| State { y: random.among(4096, 65_535), ..good(random) }),
     ("CTRL1 above 127", |random| with_ctrl1(good(random), 0x80)),
@@ -35,9 +35,6 @@ pub const CAUSES: [(&str, Planted); 33] = [
     ("progress above the count of a block", |random| above_count(random, block)),
     ("progress at the count of 0F", |random| at_count(random, |_| 0x0F)),
     ("progress above the count of 0F", |random| above_count(random, |_| 0x0F)),
-    ("a character 20 to 7F running tilted", |random| tilted(random, character)),
-    ("0A running tilted", |random| tilted(random, |_| 0x0A)),
-    ("0B running tilted", |random| tilted(random, |_| 0x0B)),
     ("VB high in the one frame of a clear", |random| vb_high_in_clear(random, 1, 0)),
     ("VB high in the first frame of two of a clear", |random| vb_high_in_clear(random, 2, 0)),
     ("VB high in the second frame of two of a clear", |random| vb_high_in_clear(random, 2, 1)),
@@ -97,13 +94,6 @@ fn with_progress(
     let state = running(random, registers, code);
     let count = count::cycles(&state, code).expect("a command that uses write cycles");
     State { work: Work::Steps { code, done: progress(random, count) }, ..state }
-}
-
-fn tilted(random: &mut Random, code: fn(&mut Random) -> u8) -> State {
-    let code = code(random);
-    let registers = registers(random);
-    let state = running(random, registers, code);
-    State { ctrl2: state.ctrl2 | TILT, ..state }
 }
 
 fn vb_high_in_clear(random: &mut Random, frames: u8, frames_done: u8) -> State {

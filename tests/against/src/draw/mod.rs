@@ -6,6 +6,7 @@ pub mod count;
 pub mod damage;
 pub mod impossible;
 pub mod left_over;
+pub mod letter;
 pub mod no_state;
 pub mod pbm;
 pub mod run;

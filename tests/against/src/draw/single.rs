@@ -1,12 +1,15 @@
 //! Single calls: a state drawn by itself, and what is known of it before either card is asked.
 
 use super::arguments::{self, WrongLengths};
-use super::{impossible, left_over, no_state, states};
+use super::{impossible, left_over, letter, no_state, states};
 use crate::call::Call;
 use crate::convert::{flattened, state_of};
 use crate::flat::Flat;
 use crate::random::Random;
 use second::{fresh, Format, State, Work};
+
+/// Of a hundred single calls, those that grant cycles to a character in sight: else too few of those drawn leave a dot.
+const LETTERS: u64 = 4;
 
 /// What is known of a call before: of its state, what refusal number 1 has to do with it.
 #[derive(Clone, Copy, PartialEq, Eq, Debug)]
@@ -27,7 +30,18 @@ pub fn causes() -> impl Iterator<Item = &'static str> {
     impossible.chain(no_state::CAUSES.iter().map(|(name, _)| *name))
 }
 
-pub fn state(random: &mut Random) -> (Flat, Known) {
+/// A state and a call on it.
+pub fn drawn(random: &mut Random) -> (Flat, Known, Call) {
+    if random.percent(LETTERS) {
+        let (state, call) = letter::granted(random);
+        return (flattened(&state), Known::Good, call);
+    }
+    let (state, known) = state(random);
+    let call = call(random, &state);
+    (state, known, call)
+}
+
+fn state(random: &mut Random) -> (Flat, Known) {
     match random.below(20) {
         0..=4 => (flattened(&states::good(random)), Known::Good),
         5..=9 => with_left_over(random),

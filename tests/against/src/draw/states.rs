@@ -5,7 +5,6 @@ use crate::random::Random;
 use second::{ClearKind, Flags, Format, Pen, State, Work};
 
 pub const FORMATS: [Format; 3] = [Format::Ef9366, Format::Ef9365High, Format::Ef9365Low];
-pub const TILT: u8 = 1 << 2;
 
 pub fn good(random: &mut Random) -> State {
     let registers = registers(random);
@@ -26,9 +25,6 @@ pub fn good(random: &mut Random) -> State {
 
 /// A good state in which the command runs, at any progress.
 pub fn running(random: &mut Random, mut state: State, code: u8) -> State {
-    if codes::is_tiltable(code) {
-        state.ctrl2 &= !TILT;
-    }
     let count = count::cycles(&state, code).expect("a command that uses write cycles");
     let done = match random.below(4) {
         0 => 0,
@@ -104,6 +100,11 @@ pub fn delta(random: &mut Random) -> u8 {
 /// Positions close to an edge of some window, or of the 12 bits, come up often.
 pub fn position(random: &mut Random) -> u16 {
     let around = random.pick(&[0, 128, 256, 512, 2048, 4096]);
-    let spread = random.pick(&[4, 40, 200, 2048]);
+    near(random, around, &[4, 40, 200, 2048])
+}
+
+/// No further away than one of the spreads.
+pub fn near(random: &mut Random, around: u16, spreads: &[u16]) -> u16 {
+    let spread = random.pick(spreads);
     (around + 4096 + random.among(0, 2 * spread) - spread) % 4096
 }

@@ -61,6 +61,18 @@ pub fn turned(cells: &[(u16, u16)], p: u16, q: u16, x: u16, y: u16) -> Vec<(u16,
     listed(&dots)
 }
 
+/// Upright dots after the slant: each line as far to the right as it lies above the first, y.
+pub fn tilted(upright: &[(u16, u16)], y: u16) -> Vec<(u16, u16)> {
+    let dots: Vec<(u16, u16)> = upright.iter().map(|&(at, line)| (at + (line - y), line)).collect();
+    listed(&dots)
+}
+
+/// Turned dots after the slant: each row as far up as it lies to the left of the first, x.
+pub fn turned_tilted(turned: &[(u16, u16)], x: u16) -> Vec<(u16, u16)> {
+    let dots: Vec<(u16, u16)> = turned.iter().map(|&(at, line)| (at, line + (x - at))).collect();
+    listed(&dots)
+}
+
 /// The picture around (x, y) as text, top row first.
 pub fn seen(card: &Card, x: u16, y: u16, width: u16, height: u16) -> Vec<String> {
     let lit = card.dots();

@@ -171,14 +171,10 @@ impl Card {
 
 /// Row 1 of the refusals, said a second time for the tests.
 pub fn is_good(state: &State) -> bool {
-    let tilt = state.ctrl2 & 4 != 0;
     let work_is_good = match state.work {
         Work::Idle | Work::Clear { open: false, .. } => true,
         Work::Clear { open: true, .. } => !state.vb,
-        Work::Steps { code, done } => {
-            let tilted = tilt && takes_glyph_cells(code);
-            !tilted && cycle_count(state, code).is_some_and(|count| u32::from(done) < count)
-        }
+        Work::Steps { code, done } => cycle_count(state, code).is_some_and(|count| u32::from(done) < count),
     };
     work_is_good
         && state.x <= 4095

@@ -1,8 +1,9 @@
 -- `drawing::letters::go_on` meets its contract, by a whole column or by one cycle.
 -- Assumes nothing.
 use borrow.Author.Needs.{needs}
+use native.Mathlib.Nat.{mul-le-mul}
 use native.Mathlib.Omega.{arith}
-use Rattle.drawing.proofs.Further.{one-further, column-further}
+use Rattle.drawing.proofs.Further.{within, one-further, column-further}
 use Rattle.drawing.proofs.letters.go_on.Statement.{statement}
 use Rattle.drawing.proofs.letters.go_on.Tie as tie
 
@@ -24,13 +25,19 @@ returns c =
     let at = c .before .before .before .before .before .before in
     let s = at .before .before .before .before in
     let w = at .is-whole .ensures (c .before .before .before .before .before .if1 .taken) in
-    column-further (s .pre .1 .0) (s .pre .1 .3) w (c .before .before .before .draw-column .ensures) (c .next-column .ensures)
+    let size = s .pre .1 .0 in
+    let next = c .next-column .ensures in
+    let some = mul-le-mul (size .p0) (size .rows0) in
+    (omega (arith, next .0, some), within (omega (arith, next .0, w .granted)) (column-further (c .before .before .before .draw-column .ensures) next))
 
 returns-2 : tie.Need-returns-2
 returns-2 c =
     let at = c .before .before .before .before .before in
     let s = at .before .before .before .before .before .before in
-    one-further (s .pre .1 .1) (s .pre .1 .3) (at .has-ink .ensures) (c .before .before .before .touch .ensures) (c .next-cell .ensures)
+    let next = c .next-cell .ensures in (
+      omega (arith, next .0),
+      within (omega (arith, next .0)) (one-further (s .pre .1 .1) (at .has-ink .ensures) (c .before .before .before .touch .ensures) next),
+    )
 
 pub go-on-spec : {M : Type 1} → statement M
 go-on-spec =

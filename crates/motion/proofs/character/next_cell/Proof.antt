@@ -25,7 +25,7 @@ returns c =
     let up = c .before .before .before .before .if1 .taken in (
       refl,
       counted (split-within (split-i g) up) (split-within (split-v g) (c .if2 .taken)) (split-u g),
-      on-risen (s .pre .0) g refl up (c .before .before .before .risen .ensures),
+      on-risen (s .args .lie) (s .pre .0) g refl up (c .before .before .before .risen .ensures),
     )
 
 add-t12 : tie.Need-add-t12
@@ -40,8 +40,13 @@ returns-2 c =
     let up = c .before .before .before .before .before .if1 .taken in (
       refl,
       counted (split-within (split-i g) up) (split-over (split-v g) (s .pre .0 .q0) (c .before .if2 .left)) (split-u g),
-      on-risen (s .pre .0) g refl up (c .before .before .before .before .risen .ensures),
+      on-risen (s .args .lie) (s .pre .0) g refl up (c .before .before .before .before .risen .ensures),
     )
+
+carried-requires : tie.Need-carried-requires
+carried-requires c κs =
+    let s = c .before .before .before .before in
+    omega (arith, counters-small (s .pre .1) (s .pre .0))
 
 add-columndot : tie.Need-add-columndot
 add-columndot c =
@@ -55,7 +60,7 @@ returns-3 c =
     let over = c .before .before .before .before .if1 .left in (
       refl,
       counted (split-over (split-i g) (s .pre .0 .rows0) over) (split-none _) (split-within (split-u g) (c .if3 .taken)),
-      on-carried (s .pre .0) g refl over (c .before .before .before .carried .ensures),
+      on-carried (s .args .lie) (s .pre .0) g refl over (c .before .before .before .carried .ensures),
     )
 
 add-t13 : tie.Need-add-t13
@@ -71,7 +76,7 @@ returns-4 c =
       refl,
       counted (split-over (split-i g) (s .pre .0 .rows0) over) (split-none _)
           (split-over (split-u g) (s .pre .0 .p0) (c .before .if3 .left)),
-      on-carried (s .pre .0) g refl over (c .before .before .before .before .carried .ensures),
+      on-carried (s .args .lie) (s .pre .0) g refl over (c .before .before .before .before .carried .ensures),
     )
 
 pub next-cell-spec : {M : Type 1} → statement M
@@ -85,7 +90,7 @@ next-cell-spec =
     returns
     add-t12
     returns-2
-    (λ c κs. search needs)
+    carried-requires
     add-columndot
     returns-3
     add-t13

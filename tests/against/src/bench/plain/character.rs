@@ -1,7 +1,7 @@
 //! Characters and blocks by counters: the cell of the next cycle, and how far into it that cycle lies.
 
 use super::window::{Ink, Place};
-use super::{Plain, TURNED};
+use super::{Plain, TILT, TURNED};
 
 #[derive(Clone)]
 pub struct Character {
@@ -11,6 +11,7 @@ pub struct Character {
     columns: u16,
     rows: u16,
     turned: bool,
+    tilted: bool,
     column: u16,
     in_column: u16,
     row: u16,
@@ -31,6 +32,7 @@ impl Character {
             columns,
             rows,
             turned: card.ctrl2 & TURNED != 0,
+            tilted: card.ctrl2 & TILT != 0,
             column: 0,
             in_column: 0,
             row: 0,
@@ -79,12 +81,13 @@ impl Character {
         }
     }
 
-    /// By u along the writing and v across it.
+    /// By u along the writing and v across it; tilted, as far along as across besides.
     fn advance(&self, place: &mut Place, u: u16, v: u16) {
+        let along = if self.tilted { u.wrapping_add(v) } else { u };
         if self.turned {
-            place.step(v.wrapping_neg(), u);
+            place.step(v.wrapping_neg(), along);
         } else {
-            place.step(u, v);
+            place.step(along, v);
         }
     }
 

@@ -3,22 +3,19 @@
 use super::character::Character;
 use super::vector::Vector;
 use super::window::Place;
-use super::{LightPen, Plain, Running, DOWN, PEN, READY, TILT};
+use super::{LightPen, Plain, Running, DOWN, PEN, READY};
 
 const ORIGIN: Place = Place { x: 0, y: 0 };
 
 impl Plain {
-    /// The refusal number, or 0.
-    pub(super) fn command(&mut self, code: u8) -> u8 {
+    pub(super) fn command(&mut self, code: u8) {
         match code {
             0x10..=0x1F | 0x80.. => self.running = Running::Vector(Vector::new(self, code)),
-            0x0A | 0x0B | 0x20..=0x7F if self.ctrl2 & TILT != 0 => return 7,
             0x0A | 0x0B | 0x20..=0x7F => self.running = Running::Character(Character::new(self, code)),
             0x0F => self.running = Running::OneCycle,
             0x04 | 0x06 | 0x07 | 0x0C => self.clear(code),
             _ => self.at_once(code),
         }
-        0
     }
 
     /// The picture waits for its frames; the registers do not.

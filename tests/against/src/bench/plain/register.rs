@@ -10,7 +10,7 @@ impl Plain {
             4 | 6 | 14.. => return 4,
             12 | 13 => return 5,
             _ if self.busy() => return 6,
-            0 => return self.command(value),
+            0 => self.command(value),
             1 => self.ctrl1 = value & 0x7F,
             2 => self.ctrl2 = value & 0x0F,
             3 => self.csize = value,

@@ -1,6 +1,6 @@
 //! Characters: whole and in the window they are painted by rows, else they step cell by cell without a division.
 
-use super::{Tuned, DOWN, PEN, TURNED, TWELVE_BITS};
+use super::{Tuned, DOWN, PEN, TILT, TURNED, TWELVE_BITS};
 
 #[derive(Clone)]
 pub struct CharacterRun {
@@ -52,20 +52,24 @@ impl CharacterRun {
 
     fn can_go_whole(&self, card: &Tuned) -> bool {
         let at_start = self.column | self.in_column | self.row | self.in_row == 0;
+        let lean = if card.ctrl2 & TILT != 0 { self.rows * self.q - 1 } else { 0 };
         let inside =
-            card.x + self.columns * self.p <= card.width && card.y + self.rows * self.q <= card.height;
+            card.x + self.columns * self.p + lean <= card.width && card.y + self.rows * self.q <= card.height;
         at_start && inside && card.ctrl1 & DOWN != 0 && card.ctrl2 & TURNED == 0
     }
 
-    /// Each row of cells is one pattern of bits, painted on Q lines.
+    /// Each row of cells is one pattern of bits, painted on Q lines; tilted, each line one dot further.
     fn whole(&mut self, card: &mut Tuned, picture: &mut [u8], table: &[u8; 480]) {
         let rows = self.rows_of_cells(table);
-        let mut at = (usize::from(card.y) << card.line_shift) + usize::from(card.x >> 3);
+        let lean = u16::from(card.ctrl2 & TILT != 0);
+        let (mut line, mut x) = (usize::from(card.y) << card.line_shift, card.x);
         for row in 0..self.rows {
-            let bits = self.widened(rows >> (8 * row)) << (card.x & 7);
+            let bits = self.widened(rows >> (8 * row));
             for _ in 0..self.q {
-                paint_line(picture, at, bits, card.ctrl1 & PEN != 0);
-                at += 1 << card.line_shift;
+                let at = line + usize::from(x >> 3);
+                paint_line(picture, at, bits << (x & 7), card.ctrl1 & PEN != 0);
+                line += 1 << card.line_shift;
+                x += lean;
             }
         }
         card.x = (card.x + self.columns * self.p) & TWELVE_BITS;
@@ -139,9 +143,10 @@ impl CharacterRun {
     }
 }
 
-/// By u along the writing and v across it.
+/// By u along the writing and v across it; tilted, as far along as across besides.
 fn place(card: &mut Tuned, u: u16, v: u16) {
-    let (x, y) = if card.ctrl2 & TURNED != 0 { (v.wrapping_neg(), u) } else { (u, v) };
+    let along = if card.ctrl2 & TILT != 0 { u.wrapping_add(v) } else { u };
+    let (x, y) = if card.ctrl2 & TURNED != 0 { (v.wrapping_neg(), along) } else { (along, v) };
     card.x = card.x.wrapping_add(x) & TWELVE_BITS;
     card.y = card.y.wrapping_add(y) & TWELVE_BITS;
 }

@@ -6,7 +6,6 @@ use mathlib.Core.Logic.{⊎-elim}
 use borrow.Author.Tests.{eq-eqb, ne-eqb}
 use Rattle.parts.specs.Refusal.{lowest}
 use Rattle.rules.specs.Commands.{afterWrite}
-use Rattle.rules.specs.Refusals.{tiltedCharacter}
 use Rattle.gdp.specs.Flat.{flat, stateOf}
 use Rattle.gdp.specs.Calls.{flawed}
 use Rattle.gdp.specs.Working.Check.{stray}
@@ -87,7 +86,7 @@ returns-5 c =
     )
 
 returns-6 : tie.Need-returns-6
-unfolding lowest tiltedCharacter afterWrite flat
+unfolding lowest afterWrite flat
 returns-6 c =
     let at = c .before .before .before in
     let six = at .before in
@@ -110,30 +109,9 @@ returns-6 c =
     )
 
 returns-7 : tie.Need-returns-7
-unfolding lowest tiltedCharacter stateOf
+unfolding lowest afterWrite stateOf
 returns-7 c =
-    let seven = c .before in
-    let at = seven .before .before in
-    let six = at .before in
-    let five = six .before .before in
-    let four = five .before .before in
-    let one = four .before .before in
-    simp (
-      c .refused6 .ensures,
-      write-told,
-      sound one,
-      sym (four .before .is-no-register .ensures) ∙ four .if4 .left,
-      sym (five .before .is-read-only .ensures) ∙ five .if5 .left,
-      sym (six .before .is-busy .ensures) ∙ six .if6 .left,
-      eq-eqb _ _ (at .if7 .left),
-      sym (seven .before .is-tilted-letter .ensures) ∙ seven .if8 .taken,
-    )
-
-returns-8 : tie.Need-returns-8
-unfolding lowest tiltedCharacter afterWrite stateOf
-returns-8 c =
-    let seven = c .before .before .before in
-    let at = seven .before .before in
+    let at = c .before .before .before in
     let six = at .before in
     let five = six .before .before in
     let four = five .before .before in
@@ -151,7 +129,6 @@ returns-8 c =
       sym (five .before .is-read-only .ensures) ∙ five .if5 .left,
       free,
       eq-eqb _ _ (at .if7 .left),
-      sym (seven .before .is-tilted-letter .ensures) ∙ seven .if8 .left,
     )
 
 pub write-spec : {M : Type 1} → statement M
@@ -180,8 +157,5 @@ write-spec =
     returns-6
     (λ c κs. search needs)
     (λ c κs. search needs)
-    returns-7
     (λ c κs. search needs)
-    (λ c κs. search needs)
-    (λ c κs. search needs)
-    returns-8)
+    returns-7)
