@@ -5,14 +5,14 @@ use mathlib.Core.Logic.{⊎-elim}
 use mathlib.Core.Bool.{Bool, true, false, cond, _&&_}
 use mathlib.Core.List.{List, [], _∷_}
 use Prim.Native.Nat.{ℕ, _+_, _-_, _*_, _/_, _≤_, _<_}
-use native.Mathlib.Nat.{add-assoc, zero-add, add-zero, add-mul, mul-add, mul-one}
+use native.Mathlib.Nat.{add-assoc, zero-add}
 use native.Mathlib.Omega.{arith}
 use lib.Arith.{digits-div}
 use Rattle.picture.specs.Dot.{paint, gathered}
-use Rattle.picture.specs.Working.Runs.{upFrom, rowsFrom, box}
-use Rattle.picture.specs.Screen.{Screen, dotNumber}
+use Rattle.picture.specs.Working.Runs.{upFrom}
+use Rattle.picture.specs.Screen.{dotNumber}
 use Rattle.basis.proofs.Cases.{split}
-use Rattle.picture.proofs.Laws.{gathered-along, gathered-none, gathered-columns, paint-alike, paint-back, paint-rows, place-own, row-in}
+use Rattle.picture.proofs.Laws.{gathered-along, gathered-none, gathered-columns, paint-rows, place-own}
 use Rattle.motion.specs.declared.position.Spot.{Spot}
 use Rattle.motion.specs.declared.character.Body.{Body}
 use Rattle.motion.specs.declared.character.Lie.{Lie}
@@ -25,8 +25,7 @@ use Rattle.motion.proofs.Laws.{Splits, splits, whole, way-at, laid-on, split-i,
 use Rattle.drawing.specs.declared.tip.Tip.{Tip}
 use Rattle.drawing.specs.Figure.{Cells, way, writes}
 use Rattle.drawing.specs.Run.{mark, placeOf, dotOf, dotsFrom}
-use Rattle.drawing.specs.Working.Cycle.{markBox, markRows}
-use Rattle.drawing.specs.Working.Column.{Fits, bandDots, AtFoot}
+use Rattle.drawing.specs.Working.Column.{Fits, AtFoot}
 
 -- row v of a column's dots, from the cell at its first cycle: P dots along; turned, P dots up
 unfoldable pub rowBy : Bool → Lie → Tip → Body → Cell → ℕ → List ℕ
@@ -45,120 +44,17 @@ pub lean-most : (tilted : Bool) {v k : ℕ} → v ≤ k → cond tilted v 0 ≤ 
 lean-most true h = h
 lean-most false h = omega arith
 
--- a stride is at most one more than the width
-pub stride-most : (tilted : Bool) (w : ℕ) → w ≤ 524288 → along (lying false tilted) w 1 ≤ 524289
-unfolding along
-stride-most tilted w h = omega (arith, lean-least tilted 1)
-
--- upright, the first dot of row v + r is r strides after that of row v
-pub row-dot : (tilted : Bool) (w x y v r : ℕ) → let lie = lying false tilted in
-    dotNumber w (along lie x (v + r)) (y + (v + r)) ≡ dotNumber w (along lie x v) (y + v) + r * along lie w 1
-unfolding along
-row-dot true w x y v r = simp (add-mul, mul-add, mul-one) (omega arith)
-row-dot false w x y v r = simp (add-mul, add-zero) (omega arith)
-
--- an upright column that is inside has its rows in the picture
-pub in-picture : (t : Tip) (tilted : Bool) (b : Body) (c : Cell) {n : ℕ} → Screen (t .window) n → Fits (lying false tilted) t b c
-    → (v r : ℕ) → v + r < b .rows → let lie = lying false tilted in
-    dotNumber (t .window .width) (along lie (c .at .x) v) (c .at .y + v) + r * along lie (t .window .width) 1 + b .p ≤ 8 * n
-unfolding along
-in-picture t tilted b c {n} screen fits v r h =
-    let lie = lying false tilted in
-    let lean = lean-most tilted {v = v + r} {k = b .rows - 1} (omega arith) in
-    rw (← row-dot tilted (t .window .width) (c .at .x) (c .at .y) v r)
-    (row-in (t .window) n (along lie (c .at .x) (v + r)) (c .at .y + (v + r)) (b .p) screen (omega (arith, lean, fits .wide)) (omega (arith, fits .high)))
-
--- rows of dots that are on
-module _ (t : Tip) (b : Body) (c : Cell) (v m : ℕ) where
-  -- upright, they are a stride apart
-  upright-rows : (tilted : Bool) → let lie = lying false tilted in
-      gathered (rowBy false lie t b c) v m
-      ≡ rowsFrom (dotNumber (t .window .width) (along lie (c .at .x) v) (c .at .y + v)) (along lie (t .window .width) 1) (b .p) m
-  unfolding rowBy
-  upright-rows tilted =
-      let lie = lying false tilted in
-      let w = t .window .width in
-      gathered-along (rowBy false lie t b c)
-      (λ r. upFrom (dotNumber w (along lie (c .at .x) v) (c .at .y + v) + r * along lie w 1) (b .p)) v 0 m
-      (λ l k. ap (λ (d : ℕ). upFrom d (b .p)) (rw zero-add (row-dot tilted w (c .at .x) (c .at .y) v l)))
-
-  -- turned, beside each other, they are a box: as wide as they are many, its left side the last row
-  standing-rows : v + m ≤ c .at .x + 1 → (pic : List ℕ)
-      → paint (t .lit) (gathered (rowBy true (lying true false) t b c) v m) pic
-      ≡ paint (t .lit) (box (t .window) ((c .at .x + 1) - (v + m)) (c .at .y) m (b .p)) pic
-  unfolding rowBy along
-  standing-rows reach pic =
-      let left = (c .at .x + 1) - (v + m) in
-      let w = t .window .width in
-      let dot : ℕ → ℕ → List ℕ = λ y j. dotNumber w (c .at .x - j) y ∷ [] in
-      let line : ℕ → List ℕ = λ y. upFrom (dotNumber w left y) m in
-      ap (λ (ds : List ℕ). paint (t .lit) ds pic)
-      (gathered-along (rowBy true (lying true false) t b c) (λ j. gathered (λ y. dot y j) (c .at .y) (b .p)) v v m
-      (λ l k. ap (λ (y : ℕ). gathered (λ h. dot h (v + l)) y (b .p)) (omega arith)))
-      ∙ sym (paint-rows (t .lit) dot (c .at .y) (b .p) v m pic)
-      ∙ paint-alike (t .lit) (λ y. gathered (dot y) v m) line (c .at .y) (b .p)
-      (λ y q. paint-back (t .lit) (λ j. dotNumber w (c .at .x - j) y) (dotNumber w left y) v m (λ l k. omega arith) q)
-      pic
-
-  -- turned and tilted, each is a line upwards
-  slanted-rows : gathered (rowBy true (lying true true) t b c) v m
-      ≡ gathered (λ k. box (t .window) (c .at .x - k) (c .at .y + k) 1 (b .p)) v m
-  unfolding rowBy along
-  slanted-rows =
-      gathered-along (rowBy true (lying true true) t b c) (λ k. box (t .window) (c .at .x - k) (c .at .y + k) 1 (b .p)) v v m
-      (λ l k. refl)
-
--- what is painted for the rows of dots of one row of a turned glyph, which are on alike, leaves the picture that they leave
-module _ (t : Tip) (b : Body) (c : Cell) (on : Bool) (v m : ℕ) where
-  band-on : (tilted : Bool) → b .rows ≤ c .at .x + 1 → v + m ≤ b .rows → (t .down && on) ≡ true → (pic : List ℕ)
-      → paint (t .lit) (bandDots tilted t b c on v m) pic ≡ paint (t .lit) (gathered (rowBy true (lying true tilted) t b c) v m) pic
-  unfolding markBox
-  band-on false reach top d pic = rw d (sym (standing-rows t b c v m (omega arith) pic))
-  band-on true reach top d pic = rw (d, slanted-rows t b c v m)
-
-  band-off : (tilted : Bool) → (t .down && on) ≡ false → bandDots tilted t b c on v m ≡ []
-  unfolding markBox
-  band-off false d = rw d
-  band-off true d = gathered-none _ v m (λ l k. rw d)
-
--- the rows of one row of the glyph are on alike
-module _ (lie : Lie) (t : Tip) (b : Body) (glyph : List ℕ) (c : Cell) {on : Bool} {v : ℕ} (row : ℕ) {m : ℕ}
-    (e : on ≡ inked glyph (c .column) row) (at : v ≡ row * b .q) (h : m ≤ b .q) where
-  here : (l : ℕ) → l < m → (v + l) / b .q ≡ row
-  here l k = rw at (digits-div row (omega arith))
-
-  rows-on : (t .down && on) ≡ true → gathered (rowDots lie t b glyph c) v m ≡ gathered (rowBy (lie .turned) lie t b c) v m
+-- the rows of dots of one row of the glyph are on alike
+module _ (lie : Lie) (t : Tip) (b : Body) (glyph : List ℕ) (c : Cell) (row : ℕ) where
+  pub rows-on : (t .down && inked glyph (c .column) row) ≡ true
+      → gathered (rowDots lie t b glyph c) (row * b .q) (b .q) ≡ gathered (rowBy (lie .turned) lie t b c) (row * b .q) (b .q)
   unfolding rowDots
-  rows-on d = gathered-along (rowDots lie t b glyph c) (rowBy (lie .turned) lie t b c) v v m (λ l k. rw (here l k, ← e, d))
+  rows-on d =
+      gathered-along (rowDots lie t b glyph c) (rowBy (lie .turned) lie t b c) (row * b .q) (row * b .q) (b .q) (λ l k. rw (digits-div row k, d))
 
-  rows-off : (t .down && on) ≡ false → gathered (rowDots lie t b glyph c) v m ≡ []
+  pub rows-off : (t .down && inked glyph (c .column) row) ≡ false → gathered (rowDots lie t b glyph c) (row * b .q) (b .q) ≡ []
   unfolding rowDots
-  rows-off d = gathered-none (rowDots lie t b glyph c) v m (λ l k. rw (here l k, ← e, d))
-
--- so they are what is painted for them: turned, and upright
-pub band-rows : (tilted : Bool) (t : Tip) (b : Body) (glyph : List ℕ) (c : Cell) {on : Bool} {v : ℕ} (row : ℕ) {m : ℕ}
-    → b .rows ≤ c .at .x + 1 → on ≡ inked glyph (c .column) row → v ≡ row * b .q → m ≤ b .q → v + m ≤ b .rows
-    → (pic : List ℕ) → paint (t .lit) (bandDots tilted t b c on v m) pic
-    ≡ paint (t .lit) (gathered (rowDots (lying true tilted) t b glyph c) v m) pic
-band-rows tilted t b glyph c {on} {v} row {m} reach e at h top pic =
-    let lie = lying true tilted in
-    let painted : List ℕ → List ℕ = λ ds. paint (t .lit) ds pic in
-    ⊎-elim
-    (λ d. band-on t b c on v m tilted reach top d pic ∙ ap painted (sym (rows-on lie t b glyph c row e at h d)))
-    (λ d. ap painted (band-off t b c on v m tilted d ∙ sym (rows-off lie t b glyph c row e at h d)))
-    (split (t .down && on))
-
-pub upright-band : (tilted : Bool) (t : Tip) (b : Body) (glyph : List ℕ) (c : Cell) {on : Bool} {v : ℕ} (row : ℕ) {m : ℕ}
-    → on ≡ inked glyph (c .column) row → v ≡ row * b .q → m ≤ b .q → let lie = lying false tilted in
-    markRows t on (dotNumber (t .window .width) (along lie (c .at .x) v) (c .at .y + v)) (along lie (t .window .width) 1) (b .p) m
-    ≡ gathered (rowDots lie t b glyph c) v m
-unfolding markRows
-upright-band tilted t b glyph c {on} {v} row {m} e at h =
-    let lie = lying false tilted in
-    ⊎-elim
-    (λ d. rw d (sym (rows-on lie t b glyph c row e at h d ∙ upright-rows t b c v m tilted)))
-    (λ d. rw d (sym (rows-off lie t b glyph c row e at h d)))
-    (split (t .down && on))
+  rows-off d = gathered-none (rowDots lie t b glyph c) (row * b .q) (b .q) (λ l k. rw (digits-div row k, d))
 
 -- where the cycles of each row write the dots of the row, all the rows leave the picture that the cycles leave
 by-rows : (lit : Bool) (b : Body) (c : Cell) (dot row : ℕ → List ℕ) → c .i ≡ uOf b (c .i) * b .rows

@@ -1,23 +1,20 @@
 // The cycles of a whole column of a glyph at once: upright as rows of equal dots a stride apart, turned as boxes, turned and
 // tilted as lines.
 ghost use mathlib.Core.Path.{_≡_};
-ghost use mathlib.Core.Bool.{true, false};
-ghost use Prim.Native.Nat.{_+_, _*_, _≤_, _<_};
+ghost use mathlib.Core.Bool.{true};
+ghost use Prim.Native.Nat.{_/_, _≤_, _<_};
 ghost use lib.ListN.{length};
 ghost use Rattle.picture.specs.Dot.{paint};
 ghost use Rattle.picture.specs.Screen.{Screen};
-ghost use Rattle.motion.specs.Character.{lying, along};
 ghost use Rattle.motion.specs.Working.Cells.{Sized, Counts};
-ghost use Rattle.drawing.specs.Working.Column.{Inside, Fits, bandDots, AtFoot, Whole, Column};
+ghost use Rattle.drawing.specs.Working.Column.{Inside, Fits, bandsOf, bandsDots, Paintable, AtFoot, Whole, Column};
 use crate::tip::Tip;
-use crate::tip::touch_box;
 use crate::tip::touch_rows;
 use motion::character::Body;
 use motion::character::Cell;
 use motion::character::Lie;
 use motion::character::along;
 use motion::glyph::has_ink;
-use motion::number::least;
 
 // Whether n by m places lie inside the window, and short of where X and Y step around.
 fn inside(t: Tip, x: u16, y: u16, n: u16, m: u16) -> bool
@@ -73,75 +70,81 @@ pub(crate) fn is_whole(t: Tip, lie: Lie, b: Body, c: Cell, left: u16) -> bool
     fits(t, lie, b, c)
 }
 
-// The m rows of dots from row v of a column on, turned and tilted, which are on alike: each row is a line upwards, and starts
-// one to the left of the one before and one above.
-fn draw_lines(pic: &mut [u8], t: Tip, b: Body, c: Cell, on: bool, v: u16, m: u16)
-    requires { ⌜ Screen (t .window) (length (now pic)) × (t .down ≡ true) ⌝ }
-    requires { ⌜ Fits (lying true true) t b c × (v + m ≤ b .rows) × (b .rows ≤ 128) ⌝ }
-    ensures { λ _. ⌜ now (pic .exit) ≡ paint (t .lit) (bandDots true t b c on v m) (now (pic .entry)) ⌝ }
+// How a column of the glyph is painted: each row of the glyph is so many lines of so many dots, a stride apart. The next row's are
+// ahead of them, or back to the left. All that so many times, each a line of the window above the one before.
+pub struct Bands {
+    pub dots: u16,
+    pub lines: u16,
+    pub stride: usize,
+    pub ahead: usize,
+    pub back: usize,
+    pub first: usize,
+    pub times: u16,
+}
+
+// Upright, Q lines of P dots, tilted or not. Turned, P lines of Q dots, which go to the left from where the cell is the last. Turned and
+// tilted, Q single dots, each above and to the left of the one before, P times.
+fn bands_of(lie: Lie, b: Body, width: usize) -> Bands
+    requires { ⌜ Sized b × (0 < width) × (width ≤ 524288) ⌝ }
+    ensures { λ r. ⌜ r ≡ bandsOf lie b width ⌝ }
 {
-    let mut k: u16 = 0;
-    while k < m {
-        touch_box(pic, t, on, c.at.x - (v + k), c.at.y + (v + k), 1, b.p);
-        k += 1;
+    if lie.turned {
+        if lie.tilted {
+            return Bands {
+                dots: 1,
+                lines: b.q,
+                stride: width - 1,
+                ahead: b.q as usize * (width - 1),
+                back: 0,
+                first: 0,
+                times: b.p,
+            };
+        }
+        return Bands {
+            dots: b.q,
+            lines: b.p,
+            stride: width,
+            ahead: 0,
+            back: b.q as usize,
+            first: 1,
+            times: 1,
+        };
+    }
+    let up = if lie.tilted { width + 1 } else { width };
+    Bands {
+        dots: b.p,
+        lines: b.q,
+        stride: up,
+        ahead: b.q as usize * up,
+        back: 0,
+        first: 0,
+        times: 1,
     }
 }
 
-// The m rows of dots from row v of a turned column on, which are on alike: a box, each row beside the one before;
-// tilted, lines.
-fn draw_band(pic: &mut [u8], t: Tip, tilted: bool, b: Body, c: Cell, on: bool, v: u16, m: u16)
-    requires { ⌜ Screen (t .window) (length (now pic)) × (t .down ≡ true) ⌝ }
-    requires { ⌜ Fits (lying true tilted) t b c × (0 < m) × (v + m ≤ b .rows) × (b .rows ≤ 128) ⌝ }
-    ensures { λ _. ⌜ now (pic .exit) ≡ paint (t .lit) (bandDots tilted t b c on v m) (now (pic .entry)) ⌝ }
+// All the rows of a column of the glyph, from a dot on.
+fn draw_bands<'a>(
+    pic: &mut [u8],
+    t: Tip,
+    b: Body,
+    glyph: &'a [u8],
+    column: u16,
+    s: Bands,
+    from: usize,
+)
+    requires { ⌜ Sized b × (length (now glyph) ≡ 5) × (t .down ≡ true) × (length (now pic) ≤ 65536) ⌝ }
+    requires { ⌜ Paintable s from (b .rows / b .q) (length (now pic)) ⌝ }
+    ensures { λ _. ⌜ now (pic .exit) ≡ paint (t .lit) (bandsDots t s (now (glyph .entry)) column from (b .rows / b .q)) (now (pic .entry)) ⌝ }
 {
-    if tilted {
-        draw_lines(pic, t, b, c, on, v, m);
-    } else {
-        touch_box(pic, t, on, c.at.x + 1 - (v + m), c.at.y, m, b.p);
-    }
-}
-
-// The cycles of a whole column of the glyph, turned.
-fn draw_turned<'a>(pic: &mut [u8], t: Tip, tilted: bool, b: Body, glyph: &'a [u8], c: Cell)
-    requires { ⌜ Screen (t .window) (length (now pic)) × (t .down ≡ true) ⌝ }
-    requires { ⌜ Sized b × Counts b c × (length (now glyph) ≡ 5) × AtFoot t (lying true tilted) b c ⌝ }
-    ensures { λ _. ⌜ Column t (lying true tilted) b (now (glyph .entry)) c (now (pic .entry)) (now (pic .exit)) ⌝ }
-{
+    let mut d = from;
     let mut v: u16 = 0;
     let mut row: u16 = 0;
     while v < b.rows {
-        let m = least(b.q, b.rows - v);
-        let on = has_ink(glyph, c.column, row);
-        draw_band(pic, t, tilted, b, c, on, v, m);
-        v += m;
-        row += 1;
-    }
-}
-
-// From the first dot of a row to that of the row above it.
-fn stride(tilted: bool, width: usize) -> usize
-    requires { ⌜ width ≤ 524288 ⌝ }
-    ensures { λ r. ⌜ r ≡ along (lying false tilted) width 1 ⌝ }
-{
-    if tilted { width + 1 } else { width }
-}
-
-// The cycles of a whole column of the glyph, upright: its rows are runs of P equal dots, tilted or not.
-fn draw_upright<'a>(pic: &mut [u8], t: Tip, tilted: bool, b: Body, glyph: &'a [u8], c: Cell)
-    requires { ⌜ Screen (t .window) (length (now pic)) × (t .down ≡ true) ⌝ }
-    requires { ⌜ Sized b × Counts b c × (length (now glyph) ≡ 5) × AtFoot t (lying false tilted) b c ⌝ }
-    ensures { λ _. ⌜ Column t (lying false tilted) b (now (glyph .entry)) c (now (pic .entry)) (now (pic .exit)) ⌝ }
-{
-    let mut d = c.at.y as usize * t.window.width + c.at.x as usize;
-    let mut v: u16 = 0;
-    let mut row: u16 = 0;
-    while v < b.rows {
-        let m = least(b.q, b.rows - v);
-        let on = has_ink(glyph, c.column, row);
-        let up = stride(tilted, t.window.width);
-        touch_rows(pic, t, on, d, up, b.p, m);
-        d += m as usize * up;
-        v += m;
+        let on = has_ink(glyph, column, row);
+        let at = d - s.back;
+        touch_rows(pic, t, on, at, s.stride, s.dots, s.lines);
+        d = at + s.ahead;
+        v += b.q;
         row += 1;
     }
 }
@@ -153,10 +156,13 @@ pub(crate) fn draw_column<'a>(pic: &mut [u8], t: Tip, lie: Lie, b: Body, glyph: 
     ensures { λ _. ⌜ Column t lie b (now (glyph .entry)) c (now (pic .entry)) (now (pic .exit)) ⌝ }
 {
     if t.down {
-        if lie.turned {
-            draw_turned(pic, t, lie.tilted, b, glyph, c);
-        } else {
-            draw_upright(pic, t, lie.tilted, b, glyph, c);
+        let s = bands_of(lie, b, t.window.width);
+        let mut d = c.at.y as usize * t.window.width + c.at.x as usize + s.first;
+        let mut k: u16 = 0;
+        while k < s.times {
+            draw_bands(pic, t, b, glyph, c.column, s, d);
+            d += t.window.width;
+            k += 1;
         }
     }
 }

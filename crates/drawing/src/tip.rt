@@ -6,9 +6,8 @@ ghost use lib.ListN.{length};
 ghost use Rattle.picture.specs.Dot.{paint};
 ghost use Rattle.picture.specs.Screen.{Screen};
 ghost use Rattle.drawing.specs.Run.{mark};
-ghost use Rattle.drawing.specs.Working.Cycle.{markBox, markRows};
+ghost use Rattle.drawing.specs.Working.Cycle.{markRows};
 use motion::position::Spot;
-use picture::run::paint_box;
 use picture::run::paint_rows;
 use picture::screen::Window;
 use picture::screen::put_dot;
@@ -34,25 +33,6 @@ pub(crate) fn touch(pic: &mut [u8], t: Tip, on: bool, x: u16, y: u16)
 {
     if t.down & on {
         put_dot(pic, t.window, x, y, t.lit);
-    }
-}
-
-// Cycles that are on alike: their n by m dots inside the window, the lower left one at (x, y).
-pub(crate) fn touch_box(pic: &mut [u8], t: Tip, on: bool, x: u16, y: u16, n: u16, m: u16)
-    requires { ⌜ Screen (t .window) (length (now pic)) ⌝ }
-    requires { ⌜ (x + n ≤ t .window .width) × (y + m ≤ t .window .height) ⌝ }
-    ensures { λ _. ⌜ now (pic .exit) ≡ paint (t .lit) (markBox t on x y n m) (now (pic .entry)) ⌝ }
-{
-    if t.down & on {
-        paint_box(
-            pic,
-            t.window,
-            x as usize,
-            y as usize,
-            n as usize,
-            m as usize,
-            t.lit,
-        );
     }
 }
 

@@ -52,6 +52,21 @@ block-code c h = beq-eq _ _ (passes (agrees 0x0B blocking) 256 blocks c h)
 pause-code : (c : ℕ) → c < 256 → eqb c 0x0F ≡ pausing (kind c)
 pause-code c h = beq-eq _ _ (passes (agrees 0x0F pausing) 256 pauses c h)
 
+-- of the letters, 0B is the block and every other code a character
+pub block-kind : {c : ℕ} → c ≡ 0x0B → kind c ≡ Block
+unfolding kind
+block-kind e = rw e refl
+
+other-letter : (k : Kind) → lettering k ≡ true → blocking k ≡ false → k ≡ Character
+other-letter NoCycle l b = absurd (false≢true l)
+other-letter OneCycle l b = absurd (false≢true l)
+other-letter Vector l b = absurd (false≢true l)
+other-letter Character l b = refl
+other-letter Block l b = absurd (true≢false b)
+
+pub letter-kind : {c : ℕ} → c < 256 → lettering (kind c) ≡ true → eqb c 0x0B ≡ false → kind c ≡ Character
+letter-kind {c} h l e = other-letter (kind c) l (sym (block-code c h) ∙ e)
+
 -- P and Q of a character's body give the cycles of a character and of a block
 pub character-by : (b : Body) (csize : ℕ) → b ≡ characterOf csize → 48 * b .p * b .q ≡ bodyCycles (characterOf csize)
 unfolding characterOf

@@ -135,12 +135,24 @@ impl Gdp {
         draw_body(pic, t, lie, b, glyph(table, self.code), run)
     }
 
+    // The body of the running character or block.
+    fn body(self) -> Body
+        requires { ⌜ lettering (kind (self .code)) ≡ true ⌝ }
+        ensures { λ b. ⌜ (figure (regsOf self) (self .code) ≡ Cells (lie (regsOf self)) b) × Sized b × (bodyCycles b ≤ 12288) ⌝ }
+    {
+        if self.code == 0x0B {
+            block_of(self.csize)
+        } else {
+            character_of(self.csize)
+        }
+    }
+
     // A running character or block.
-    fn grant_body(self, b: Body, n: u16, pic: &mut [u8], table: &[u8]) -> Answer
+    fn grant_body(self, n: u16, pic: &mut [u8], table: &[u8]) -> Answer
         requires { ⌜ (stray self ≡ false) × (workIn (self .modes) ≡ 1) × (lettering (kind (self .code)) ≡ true) ⌝ }
-        requires { ⌜ (figure (regsOf self) (self .code) ≡ Cells (lie (regsOf self)) b) × Sized b × (bodyCycles b ≤ 12288) ⌝ }
         ensures { λ r. ⌜ Grants self n (now (pic .entry)) (now (table .entry)) r (now (pic .exit)) ⌝ }
     {
+        let b = self.body();
         let cycles = b.columns * b.rows;
         let number = self.step_number(cycles, pic.len(), table.len());
         if number != 0 {
@@ -195,8 +207,8 @@ impl Gdp {
             Kind::NoCycle => refused(1, self),
             Kind::OneCycle => self.grant_pause(n, pic, table),
             Kind::Vector => self.grant_line(n, pic, table),
-            Kind::Character => self.grant_body(character_of(self.csize), n, pic, table),
-            Kind::Block => self.grant_body(block_of(self.csize), n, pic, table),
+            Kind::Character => self.grant_body(n, pic, table),
+            Kind::Block => self.grant_body(n, pic, table),
         }
     }
 

@@ -1,10 +1,10 @@
 -- The laws of a cell: its counters go up with its cycle, and its place with them.
 -- Assumes nothing.
 use mathlib.Core.Path.{_≡_, ap, _∙_}
-use Prim.Native.Nat.{ℕ, _+_, _*_, _/_, _%_, _≤_, _<_}
+use Prim.Native.Nat.{ℕ, _+_, _-_, _*_, _/_, _%_, _≤_, _<_}
 use native.Mathlib.Nat.{add-mul, one-mul}
 use native.Mathlib.Omega.{arith}
-use Rattle.motion.specs.Position.{moved, movedBack}
+use Rattle.motion.specs.Position.{moved}
 use Rattle.motion.specs.Character.{uOf, vOf, columnOf, rowOf, laid, bodyWay}
 use Rattle.motion.specs.Working.Cells.{Sized, Counts, OnPlace}
 use Rattle.motion.specs.declared.position.Spot.{Spot}
@@ -57,7 +57,7 @@ module _ (lie : Lie) {b : Body} {c : Cell} {to : Spot} {i : ℕ} (s : Sized b) (
   on-risen h up start on =
       rw (next, up, on) (rise-way b s lie (c .i) start (rw (g .v) at h))
 
-  pub on-carried : b .rows ≤ c .v + 1 → to ≡ movedBack (moved (c .at) (laid lie 1 0)) (laid lie 0 (c .v))
+  pub on-carried : b .rows ≤ c .v + 1 → to ≡ moved (c .at) (laid lie 1 (4096 - c .v))
       → (start : Spot) → OnPlace lie b start c → to ≡ moved start (bodyWay lie b i)
   on-carried h over start on =
       rw (next, over, on, g .v) (carry-way b s lie (c .i) start (rw (g .v) at h))

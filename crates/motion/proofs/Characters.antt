@@ -4,20 +4,20 @@
 use mathlib.Core.Path.{_≡_, refl, sym, _∙_}
 use mathlib.Core.Bool.{Bool, true, false}
 use mathlib.Core.Logic.{⊎-elim}
-use Prim.Native.Nat.{ℕ, _+_, _*_, _≤_, _<_}
+use Prim.Native.Nat.{ℕ, _+_, _-_, _*_, _/_, _≤_, _<_}
 use native.Mathlib.Nat.{mul-mul-mul-comm, mul-assoc, mul-le-mul, mod-lt, div-lt-iff-lt-mul, add-zero, zero-add, le-refl, lt-of-lt-of-le}
 use native.Mathlib.Omega.{arith}
 use lib.Arith.{digits-lt, digits-div, digits-mod}
 use lib.Dec.{eqb}
 use borrow.Author.Tests.{eqb-false}
 use Rattle.basis.proofs.Cases.{split}
-use Rattle.motion.specs.Position.{moved, movedBack}
+use Rattle.motion.specs.Position.{moved}
 use Rattle.motion.specs.Character.{scale, scaleP, scaleQ, characterOf, blockOf, bodyCycles, uOf, vOf, columnOf, rowOf, lying, along, laid, bodyWay, bodyEnd}
 use Rattle.motion.specs.Working.Cells.{Sized}
 use Rattle.motion.specs.declared.position.Spot.{Spot}
 use Rattle.motion.specs.declared.character.Body.{Body}
 use Rattle.motion.specs.declared.character.Lie.{Lie}
-use Rattle.motion.proofs.Positions.{ahead-range, ahead-sum, same-spot, on-and-back}
+use Rattle.motion.proofs.Positions.{ahead-sum, same-spot}
 use Rattle.motion.proofs.Counting.{Splits, splits, whole, split-within, split-over}
 
 -- 0 means 16, so what is scaled is above 0, and of four bits at most 16: P and Q are 1 to 16
@@ -61,21 +61,22 @@ pub block-cycles : (csize : ℕ) → bodyCycles (blockOf csize) ≡ 16 * scaleP 
 unfolding bodyCycles blockOf
 block-cycles csize = product 4 4 (scaleP csize) (scaleQ csize)
 
--- Q rows at least and 8 × Q at most are a size
-sized : (b : Body) → 0 < b .p → b .p ≤ 16 → 0 < b .q → b .q ≤ 16 → b .q ≤ b .rows → b .rows ≤ 8 * b .q → Sized b
-sized b p0 p16 q0 q16 least most =
-    record { p0 = p0; p16 = p16; q0 = q0; q16 = q16; rows0 = omega arith; rows128 = omega arith }
+-- one to eight times Q rows are a size
+sized : (b : Body) (k : ℕ) → 0 < b .p → b .p ≤ 16 → 0 < b .q → b .q ≤ 16 → b .rows ≡ k * b .q → b .q ≤ b .rows → b .rows ≤ 8 * b .q → Sized b
+sized b k p0 p16 q0 q16 rows least most =
+    let whole : b .rows / b .q ≡ k = rw (rows, ← add-zero (k * b .q)) (digits-div k q0) in
+    record { p0 = p0; p16 = p16; q0 = q0; q16 = q16; rows0 = omega arith; rows128 = omega arith; glyphRows = rw whole rows }
 
 -- of any byte CSIZE
 module _ (csize : ℕ) (h : csize < 256) where
   -- its bodies are sized
   pub character-sized : Sized (characterOf csize)
   unfolding characterOf
-  character-sized = sized (characterOf csize) (p-some csize) (p-most csize h) (q-some csize) (q-most csize h) (omega arith) (omega arith)
+  character-sized = sized (characterOf csize) 8 (p-some csize) (p-most csize h) (q-some csize) (q-most csize h) refl (omega arith) (omega arith)
 
   pub block-sized : Sized (blockOf csize)
   unfolding blockOf
-  block-sized = sized (blockOf csize) (p-some csize) (p-most csize h) (q-some csize) (q-most csize h) (omega arith) (omega arith)
+  block-sized = sized (blockOf csize) 4 (p-some csize) (p-most csize h) (q-some csize) (q-most csize h) refl (omega arith) (omega arith)
 
   -- the most cycles
   pub character-most : bodyCycles (characterOf csize) ≤ 12288
@@ -171,10 +172,16 @@ module _ (lie : Lie) (start : Spot) (u v m n : ℕ) (h : v + n ≤ 4096) where
       (same-spot (ahead-sum _ _ _ _ (omega arith)) (ahead-sum _ _ _ _ (omega arith)))
       lie
 
-  -- and (m, n) can be taken back again
-  pub laid-back : movedBack (moved start (laid lie (u + m) (v + n))) (laid lie m n) ≡ moved start (laid lie u v)
-  unfolding moved
-  laid-back = rw (← laid-on) (on-and-back (moved start (laid lie u v)) (laid lie m n) (ahead-range _ _) (ahead-range _ _))
+-- and 4,096 dots up lead back to the foot
+pub laid-around : (lie : Lie) (start : Spot) (u : ℕ) → moved start (laid lie u 4096) ≡ moved start (laid lie u 0)
+unfolding moved laid along
+laid-around lie start u =
+    four (λ l. moved start (laid l u 4096) ≡ moved start (laid l u 0))
+    (same-spot refl (omega arith))
+    (same-spot (omega arith) (omega arith))
+    (same-spot (omega arith) refl)
+    (same-spot (omega arith) (omega arith))
+    lie
 
 module _ (b : Body) (s : Sized b) (lie : Lie) where
   -- within a column v is one more; at its top u is one more, and v starts again
@@ -195,13 +202,13 @@ module _ (b : Body) (s : Sized b) (lie : Lie) where
         rw (way-at lie b (rise h), way-at lie b (split-cycle b i))
         (rw add-zero at (laid-on lie start (uOf b i) (vOf b i) 0 1 (omega (arith, v-most))))
 
-    -- and at its top it goes one along and back by v
+    -- and at its top it goes one along and around to the foot: up by what v lacks of 4,096
     pub carry-way : (start : Spot) → b .rows ≤ vOf b i + 1
-        → movedBack (moved (moved start (bodyWay lie b i)) (laid lie 1 0)) (laid lie 0 (vOf b i)) ≡ moved start (bodyWay lie b (i + 1))
+        → moved (moved start (bodyWay lie b i)) (laid lie 1 (4096 - vOf b i)) ≡ moved start (bodyWay lie b (i + 1))
     carry-way start h =
-        let one = laid-on lie start (uOf b i) (vOf b i) 1 0 (omega (arith, v-most)) in
-        let back = laid-back lie start (uOf b i + 1) 0 0 (vOf b i) (omega (arith, v-most)) in
-        rw (way-at lie b (carry h), way-at lie b (split-cycle b i), one, add-zero) (rw (add-zero, zero-add) at back)
+        let around : vOf b i + (4096 - vOf b i) ≡ 4096 = omega (arith, v-most) in
+        rw (way-at lie b (carry h), way-at lie b (split-cycle b i))
+        (laid-on lie start (uOf b i) (vOf b i) 1 (4096 - vOf b i) (omega (arith, v-most)) ∙ rw around (laid-around lie start (uOf b i + 1)))
 
   -- one past the last cycle is the foot of the column after the last
   end-split : Splits (bodyCycles b) (b .rows) (b .columns) 0

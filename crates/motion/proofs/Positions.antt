@@ -84,8 +84,3 @@ same-spot ex ey = λ j. spot (ex j) (ey j)
 pub back-and-on : (at way : Spot) → at .x < 4096 → at .y < 4096 → at ≡ moved (movedBack at way) way
 unfolding moved movedBack
 back-and-on at way hx hy = same-spot (sym (ahead-behind (at .x) (way .x) hx)) (sym (ahead-behind (at .y) (way .y) hy))
-
--- and so it is moved on and back again
-pub on-and-back : (at way : Spot) → at .x < 4096 → at .y < 4096 → movedBack (moved at way) way ≡ at
-unfolding moved movedBack
-on-and-back at way hx hy = same-spot (behind-ahead (at .x) (way .x) hx) (behind-ahead (at .y) (way .y) hy)

@@ -1,12 +1,11 @@
 // How a character steps: by counters, so that no cycle costs a division.
 ghost use mathlib.Core.Path.{_≡_};
-ghost use Prim.Native.Nat.{_+_, _*_, _≤_, _<_};
+ghost use Prim.Native.Nat.{_+_, _-_, _*_, _≤_, _<_};
 ghost use Rattle.motion.specs.Position.{moved, movedBack};
 ghost use Rattle.motion.specs.Character.{scale, characterOf, blockOf, along, laid, bodyWay};
 ghost use Rattle.motion.specs.Working.Cells.{Sized, Counts, OnPlace};
 use crate::position::Spot;
 use crate::position::moved;
-use crate::position::moved_back;
 
 // P and Q, and the columns and rows of dots that are stepped through.
 pub struct Body {
@@ -96,7 +95,7 @@ pub fn along(lie: Lie, u: u16, v: u16) -> u16
 
 // The way to the dot (u, v).
 fn laid(lie: Lie, u: u16, v: u16) -> Spot
-    requires { ⌜ (u ≤ 128) × (v ≤ 128) ⌝ }
+    requires { ⌜ (u ≤ 4096) × (v ≤ 4096) ⌝ }
     ensures { λ r. ⌜ r ≡ laid lie u v ⌝ }
 {
     let far = along(lie, u, v);
@@ -117,12 +116,12 @@ fn risen(lie: Lie, at: Spot) -> Spot
     moved(at, laid(lie, 0, 1))
 }
 
-// From the top of a column, so many dots up, to the foot of the next one.
+// From the top of a column, so many dots up, to the foot of the next one: one along, and up around 4,096.
 fn carried(lie: Lie, rise: u16, at: Spot) -> Spot
-    requires { ⌜ rise ≤ 128 ⌝ }
-    ensures { λ r. ⌜ r ≡ movedBack (moved at (laid lie 1 0)) (laid lie 0 rise) ⌝ }
+    requires { ⌜ rise ≤ 4096 ⌝ }
+    ensures { λ r. ⌜ r ≡ moved at (laid lie 1 (4096 - rise)) ⌝ }
 {
-    moved_back(moved(at, laid(lie, 1, 0)), laid(lie, 0, rise))
+    moved(at, laid(lie, 1, 4096 - rise))
 }
 
 // One cycle further.

@@ -1,7 +1,7 @@
 // The 12-bit positions. These helpers wrap at 4,096 on purpose.
 ghost use mathlib.Core.Path.{_≡_};
 ghost use Prim.Native.Nat.{_≤_};
-ghost use Rattle.motion.specs.Position.{ahead, behind, signed, moved, movedBack};
+ghost use Rattle.motion.specs.Position.{ahead, behind, signed, moved};
 
 // A place, or a way from one place to another.
 pub struct Spot {
@@ -38,15 +38,5 @@ pub(crate) fn moved(at: Spot, way: Spot) -> Spot
     Spot {
         x: forward(at.x, way.x),
         y: forward(at.y, way.y),
-    }
-}
-
-// A place moved back by a way.
-pub(crate) fn moved_back(at: Spot, way: Spot) -> Spot
-    ensures { λ r. ⌜ r ≡ movedBack at way ⌝ }
-{
-    Spot {
-        x: backward(at.x, way.x),
-        y: backward(at.y, way.y),
     }
 }

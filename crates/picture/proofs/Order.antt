@@ -88,15 +88,15 @@ paint-each b f g i (suc k) pic =
     ∙ sym (paint-append b (g i) (gathered g (suc i) k) (paint b rest (paint b (f i) pic)))
     ∙ ap (paint b (g i ++ gathered g (suc i) k)) (sym (paint-append b (f i) rest pic))
 
--- steps that leave the same pictures
-pub paint-alike : (b : Bool) (f g : ℕ → List ℕ) (i k : ℕ) → ((j : ℕ) (q : List ℕ) → paint b (f j) q ≡ paint b (g j) q)
-    → (pic : List ℕ) → paint b (gathered f i k) pic ≡ paint b (gathered g i k) pic
-paint-alike b f g i zero h pic = refl
-paint-alike b f g i (suc k) h pic =
+-- steps that leave the same pictures, counted from i and from j
+pub paint-alike : (b : Bool) (f g : ℕ → List ℕ) (i j k : ℕ) → ((l : ℕ) → l < k → (q : List ℕ) → paint b (f (i + l)) q ≡ paint b (g (j + l)) q)
+    → (pic : List ℕ) → paint b (gathered f i k) pic ≡ paint b (gathered g j k) pic
+paint-alike b f g i j zero h pic = refl
+paint-alike b f g i j (suc k) h pic =
     paint-append b (f i) (gathered f (suc i) k) pic
-    ∙ paint-alike b f g (suc i) k h (paint b (f i) pic)
-    ∙ ap (paint b (gathered g (suc i) k)) (h i pic)
-    ∙ sym (paint-append b (g i) (gathered g (suc i) k) pic)
+    ∙ paint-alike b f g (suc i) (suc j) k (λ l m. rw (suc-add i l, suc-add j l, ← add-suc i l, ← add-suc j l) (h (suc l) (omega arith))) (paint b (f i) pic)
+    ∙ ap (paint b (gathered g (suc j) k)) (rw (add-zero i, add-zero j) at (h 0 (omega arith) pic))
+    ∙ sym (paint-append b (g j) (gathered g (suc j) k) pic)
 
 -- dots that follow each other, painted from the last to the first
 pub paint-back : (b : Bool) (f : ℕ → ℕ) (d i k : ℕ) → ((l : ℕ) → l < k → f (i + l) + (l + 1) ≡ d + k)

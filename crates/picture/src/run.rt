@@ -2,11 +2,9 @@
 ghost use mathlib.Core.Path.{_≡_};
 ghost use Prim.Native.Nat.{ℕ, _+_, _-_, _*_, _%_, _≤_, _<_, min};
 ghost use lib.ListN.{length};
-ghost use Rattle.picture.specs.Working.Runs.{withBits, upFrom, rowsFrom, box};
+ghost use Rattle.picture.specs.Working.Runs.{withBits, upFrom, rowsFrom};
 ghost use Rattle.picture.specs.Dot.{paint};
-ghost use Rattle.picture.specs.Screen.{Screen};
 use crate::dot::set_dot;
-use crate::screen::Window;
 
 // v with the m bits from bit k on lit or dark.
 fn with_bits(v: u8, k: u8, m: u8, lit: bool) -> u8
@@ -46,21 +44,6 @@ fn paint_run(pic: &mut [u8], d: usize, n: usize, lit: bool)
         let m = in_byte(at, n - done);
         paint_byte(pic, at, m, lit);
         done += m;
-    }
-}
-
-// Lights or darkens n by m dots in the window, the lower left one at (x, y).
-pub fn paint_box(pic: &mut [u8], w: Window, x: usize, y: usize, n: usize, m: usize, lit: bool)
-    requires { ⌜ Screen w (length (now pic)) ⌝ }
-    requires { ⌜ (x + n ≤ w .width) × (y + m ≤ w .height) ⌝ }
-    ensures { λ _. ⌜ now (pic .exit) ≡ paint lit (box w x y n m) (now (pic .entry)) ⌝ }
-{
-    let mut d = y * w.width + x;
-    let mut r = 0;
-    while r < m {
-        paint_run(pic, d, n, lit);
-        d += w.width;
-        r += 1;
     }
 }
 

@@ -1,7 +1,7 @@
 -- The cycles of a character's or a block's run that are drawn at once: one cycle, or those of a whole column of the glyph.
 -- Assumes nothing.
 use mathlib.Core.Path.{_≡_}
-use Prim.Native.Nat.{ℕ, _+_, _-_, _*_, _≤_}
+use Prim.Native.Nat.{ℕ, _+_, _-_, _*_, _≤_, _<_}
 use mathlib.Core.Bool.{Bool, true, false}
 use mathlib.Core.List.{List}
 use Rattle.picture.specs.Dot.{paint, gathered}
@@ -9,12 +9,14 @@ use Rattle.motion.specs.declared.position.Spot.{Spot}
 use Rattle.motion.specs.declared.character.Body.{Body}
 use Rattle.motion.specs.declared.character.Lie.{Lie}
 use Rattle.motion.specs.declared.character.Cell.{Cell}
-use Rattle.motion.specs.Character.{along}
+use Rattle.motion.specs.Character.{lying, along}
+use Rattle.motion.specs.Glyph.{inked}
 use Rattle.motion.specs.Working.Cells.{Counts, OnPlace}
 use Rattle.drawing.specs.declared.tip.Tip.{Tip}
+use Rattle.drawing.specs.declared.column.Bands.{Bands}
 use Rattle.drawing.specs.Figure.{Cells}
 use Rattle.drawing.specs.Run.{dotsFrom}
-use Rattle.drawing.specs.Working.Cycle.{markBox}
+use Rattle.drawing.specs.Working.Cycle.{markRows}
 
 -- n by m places, the lower left one at (x, y), are in the window, and neither X nor Y steps around within them
 pub record Inside (t : Tip) (x y n m : ℕ) : Type 0 where
@@ -32,10 +34,35 @@ fitsBy true t far b c = (b .rows ≤ c .at .x + 1) × Inside t ((c .at .x + 1) -
 abbrev pub Fits : Lie → Tip → Body → Cell → Type 0
 Fits lie t b c = fitsBy (lie .turned) t (along lie (b .p) (b .rows - 1)) b c
 
--- the dots of m rows from row v on of a turned column that are on alike: a box; tilted too, each row a line upwards
-abbrev pub bandDots : Bool → Tip → Body → Cell → Bool → ℕ → ℕ → List ℕ
-bandDots false t b c on v m = markBox t on ((c .at .x + 1) - (v + m)) (c .at .y) m (b .p)
-bandDots true t b c on v m = gathered (λ k. markBox t on (c .at .x - k) (c .at .y + k) 1 (b .p)) v m
+-- how a column of the glyph is painted in a window of so many dots a line: turned, tilted
+abbrev pub bandsBy : Bool → Bool → Body → ℕ → Bands
+bandsBy false tilted b w =
+    let up = along (lying false tilted) w 1 in
+    record { dots = b .p; lines = b .q; stride = up; ahead = b .q * up; back = 0; first = 0; times = 1 }
+bandsBy true false b w = record { dots = b .q; lines = b .p; stride = w; ahead = 0; back = b .q; first = 1; times = 1 }
+bandsBy true true b w = record { dots = 1; lines = b .q; stride = w - 1; ahead = b .q * (w - 1); back = 0; first = 0; times = b .p }
+
+abbrev pub bandsOf : Lie → Body → ℕ → Bands
+bandsOf lie b w = bandsBy (lie .turned) (lie .tilted) b w
+
+-- the first dot of a row of the glyph, where the painting goes from dot d on
+unfoldable pub bandAt : Bands → ℕ → ℕ → ℕ
+bandAt s d row = (d + row * s .ahead) - (row + 1) * s .back
+
+-- the dots of one row of the glyph, and of all of them
+unfoldable pub bandDots : Tip → Bands → List ℕ → ℕ → ℕ → ℕ → List ℕ
+bandDots t s glyph column d row = markRows t (inked glyph column row) (bandAt s d row) (s .stride) (s .dots) (s .lines)
+
+abbrev pub bandsDots : Tip → Bands → List ℕ → ℕ → ℕ → ℕ → List ℕ
+bandsDots t s glyph column d rows = gathered (bandDots t s glyph column d) 0 rows
+
+-- so many rows of the glyph, painted from dot d on, are in a picture of so many bytes
+pub record Paintable (s : Bands) (d rows size : ℕ) : Type 0 where
+  pub some : 0 < s .lines
+  pub near : s .stride ≤ 524289
+  pub soon : s .ahead ≤ 16 * 524289
+  pub back : (row : ℕ) → row < rows → (row + 1) * s .back ≤ d + row * s .ahead
+  pub inside : (row : ℕ) → row < rows → (l : ℕ) → l < s .lines → bandAt s d row + l * s .stride + s .dots ≤ 8 * size
 
 -- a cell on the first cycle of a column of the glyph that is inside
 pub record AtFoot (t : Tip) (lie : Lie) (b : Body) (c : Cell) : Type 0 where

@@ -3,7 +3,7 @@
 use Prim.Native.Nat.{ℕ, _+_, _≤_, _<_}
 use mathlib.Core.Bool.{Bool, cond, _&&_}
 use mathlib.Core.List.{List, []}
-use Rattle.picture.specs.Working.Runs.{rowsFrom, box}
+use Rattle.picture.specs.Working.Runs.{rowsFrom}
 use Rattle.motion.specs.declared.vector.Line.{Line}
 use Rattle.motion.specs.Position.{ahead}
 use Rattle.motion.specs.LineType.{lineOn}
@@ -20,11 +20,7 @@ pub record Granted (f : Figure) (run : Run) : Type 0 where
   pub x : run .at .x < 4096
   pub y : run .at .y < 4096
 
--- the dots of cycles that are on alike, n by m of them, the lower left one at a place inside the window
-unfoldable pub markBox : Tip → Bool → ℕ → ℕ → ℕ → ℕ → List ℕ
-markBox t on x y n m = cond (t .down && on) (box (t .window) x y n m) []
-
--- or as m rows of n, the first from dot d on, each so many dots after the one before
+-- the dots of cycles that are on alike, m rows of n: the first from dot d on, each so many dots after the one before
 unfoldable pub markRows : Tip → Bool → ℕ → ℕ → ℕ → ℕ → List ℕ
 markRows t on d stride n m = cond (t .down && on) (rowsFrom d stride n m) []
 

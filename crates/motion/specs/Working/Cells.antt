@@ -1,7 +1,7 @@
 -- A character's cell as the code steps it.
 -- Assumes nothing.
 use mathlib.Core.Path.{_≡_}
-use Prim.Native.Nat.{_%_, _≤_, _<_}
+use Prim.Native.Nat.{_*_, _/_, _%_, _≤_, _<_}
 use Rattle.motion.specs.declared.position.Spot.{Spot}
 use Rattle.motion.specs.declared.character.Body.{Body}
 use Rattle.motion.specs.declared.character.Lie.{Lie}
@@ -9,7 +9,7 @@ use Rattle.motion.specs.declared.character.Cell.{Cell}
 use Rattle.motion.specs.Position.{moved}
 use Rattle.motion.specs.Character.{uOf, vOf, columnOf, rowOf, bodyWay}
 
--- sizes that CSIZE can give
+-- sizes that CSIZE can give: each row of the glyph is Q rows of dots
 pub record Sized (b : Body) : Type 0 where
   pub p0 : 0 < b .p
   pub p16 : b .p ≤ 16
@@ -17,6 +17,7 @@ pub record Sized (b : Body) : Type 0 where
   pub q16 : b .q ≤ 16
   pub rows0 : 0 < b .rows
   pub rows128 : b .rows ≤ 128
+  pub glyphRows : b .rows ≡ b .rows / b .q * b .q
 
 -- the counters of a cell are those of its cycle
 pub record Counts (b : Body) (c : Cell) : Type 0 where

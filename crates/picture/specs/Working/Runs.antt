@@ -3,10 +3,8 @@
 use Prim.Native.Nat.{ℕ, zero, suc, _+_, _*_}
 use mathlib.Core.Bool.{Bool}
 use mathlib.Core.List.{List, [], _∷_}
-use Rattle.picture.specs.declared.screen.Window.{Window}
 use Rattle.picture.specs.Bit.{withBit}
 use Rattle.picture.specs.Dot.{gathered}
-use Rattle.picture.specs.Screen.{dotNumber}
 
 -- v with the m bits from bit k on made b
 abbrev pub withBits : Bool → ℕ → ℕ → ℕ → ℕ
@@ -20,7 +18,3 @@ upFrom d n = gathered (λ e. e ∷ []) d n
 -- m rows of n dots, the first from dot d on, each so many dots after the one before
 abbrev pub rowsFrom : ℕ → ℕ → ℕ → ℕ → List ℕ
 rowsFrom d stride n m = gathered (λ r. upFrom (d + r * stride) n) 0 m
-
--- the n by m dots whose lower left one is (x, y), row after row
-abbrev pub box : Window → ℕ → ℕ → ℕ → ℕ → List ℕ
-box w x y n m = gathered (λ r. upFrom (dotNumber (w .width) x r) n) y m

@@ -6,12 +6,7 @@ use Rattle.motion.proofs.character.carried.Statement.{statement}
 use Rattle.motion.proofs.character.carried.Tie as tie
 
 returns : tie.Need-returns
-returns c =
-    c .moved-back .ensures
-    ∙ rw (c .before .laid2 .ensures, c .before .before .moved .ensures, c .before .before .before .laid .ensures)
+returns c = c .moved .ensures ∙ rw (c .before .laid .ensures)
 
 pub carried-spec : {M : Type 1} → statement M
-carried-spec =
-    tie.close
-    (tie.spec (λ c κs. search needs) (λ c κs. search needs)
-    (λ c κs. search needs) (λ c κs. search needs) returns)
+carried-spec = tie.close (tie.spec (λ c. search needs) (λ c κs. search needs) (λ c κs. search needs) returns)

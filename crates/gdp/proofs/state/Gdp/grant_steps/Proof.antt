@@ -1,13 +1,9 @@
 -- `gdp::state::Gdp::grant_steps` meets its contract: each kind of command by its own grant.
 -- Assumes nothing.
 use mathlib.Core.Path.{_≡_, sym, ap, _∙_}
-use Prim.Native.Nat.{_<_}
-use native.Mathlib.Omega.{arith}
 use borrow.Author.Needs.{needs}
-use Rattle.motion.proofs.Laws.{character-most, block-most}
 use Rattle.parts.specs.declared.command.Kind.{Kind}
 use Rattle.parts.specs.Command.{kind, lettering}
-use Rattle.rules.specs.Figure.{figureBy, figure}
 use Rattle.gdp.proofs.Steps.{nothing-refused}
 use Rattle.gdp.proofs.state.Gdp.grant_steps.Statement.{statement}
 use Rattle.gdp.proofs.state.Gdp.grant_steps.Tie as tie
@@ -32,24 +28,16 @@ grant-line-requires c κs =
     (p .0, p .1, found on (c .before .enum-told3 .given .1))
 
 grant-body-requires : tie.Need-grant-body-requires
-unfolding figureBy figure
 grant-body-requires c κs =
-    let on = c .before .before .before .before in
+    let on = c .before .before .before in
     let p = start on .pre in
-    let k = found on (c .before .before .enum-told4 .given .1) in
-    let b = c .before .character-of .ensures in
-    let byte : start on .args .self .csize < 256 = omega arith in
-    ((p .0, p .1, ap lettering k), (rw (k, b .0), b .1, rw (b .0) (character-most _ byte)))
+    (p .0, p .1, ap lettering (found on (c .before .enum-told4 .given .1)))
 
 grant-body-requires-2 : tie.Need-grant-body-requires-2
-unfolding figureBy figure
 grant-body-requires-2 c κs =
-    let on = c .before .before .before .before in
+    let on = c .before .before .before in
     let p = start on .pre in
-    let k = found on (c .before .before .enum-told5 .given .1) in
-    let b = c .before .block-of .ensures in
-    let byte : start on .args .self .csize < 256 = omega arith in
-    ((p .0, p .1, ap lettering k), (rw (k, b .0), b .1, rw (b .0) (omega (arith, block-most _ byte))))
+    (p .0, p .1, ap lettering (found on (c .before .enum-told5 .given .1)))
 
 returns : tie.Need-returns
 returns c =
@@ -70,10 +58,8 @@ grant-steps-spec =
     (λ c. search needs)
     grant-line-requires
     (λ c. search needs)
-    (λ c κs. search needs)
     grant-body-requires
     (λ c. search needs)
-    (λ c κs. search needs)
     grant-body-requires-2
     returns
     (λ c. search needs)
