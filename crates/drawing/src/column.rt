@@ -1,5 +1,4 @@
-// The cycles of a whole column of a glyph at once: upright as rows of equal dots a stride apart, turned as boxes, turned and
-// tilted as lines.
+// The cycles of a whole column of a glyph at once: lines of equal dots a stride apart, whatever way the letters lie.
 ghost use mathlib.Core.Path.{_≡_};
 ghost use mathlib.Core.Bool.{true};
 ghost use Prim.Native.Nat.{_/_, _≤_, _<_};
@@ -70,8 +69,8 @@ pub(crate) fn is_whole(t: Tip, lie: Lie, b: Body, c: Cell, left: u16) -> bool
     fits(t, lie, b, c)
 }
 
-// How a column of the glyph is painted: each row of the glyph is so many lines of so many dots, a stride apart. The next row's are
-// ahead of them, or back to the left. All that so many times, each a line of the window above the one before.
+// How a column of the glyph is painted: each row of the glyph is so many lines of so many dots, a stride apart; the next row begins
+// so many dots ahead, or back. All this so many times, each one line of the window above the one before.
 pub struct Bands {
     pub dots: u16,
     pub lines: u16,
@@ -82,8 +81,8 @@ pub struct Bands {
     pub times: u16,
 }
 
-// Upright, Q lines of P dots, tilted or not. Turned, P lines of Q dots, which go to the left from where the cell is the last. Turned and
-// tilted, Q single dots, each above and to the left of the one before, P times.
+// Upright, Q lines of P dots, tilted or not. Turned, P lines of Q dots; the first row ends with the dot at the foot, the next ones
+// follow to the left. Turned and tilted, Q single dots, each to the left of and above the one before, P times.
 fn bands_of(lie: Lie, b: Body, width: usize) -> Bands
     requires { ⌜ Sized b × (0 < width) × (width ≤ 524288) ⌝ }
     ensures { λ r. ⌜ r ≡ bandsOf lie b width ⌝ }
@@ -122,7 +121,7 @@ fn bands_of(lie: Lie, b: Body, width: usize) -> Bands
     }
 }
 
-// All the rows of a column of the glyph, from a dot on.
+// All the rows of a column of the glyph once, from a dot on.
 fn draw_bands<'a>(
     pic: &mut [u8],
     t: Tip,

@@ -147,12 +147,12 @@ impl Gdp {
         }
     }
 
-    // A running character or block.
-    fn grant_body(self, n: u16, pic: &mut [u8], table: &[u8]) -> Answer
+    // A running character or block, its body at hand.
+    fn grant_body(self, b: Body, n: u16, pic: &mut [u8], table: &[u8]) -> Answer
         requires { ⌜ (stray self ≡ false) × (workIn (self .modes) ≡ 1) × (lettering (kind (self .code)) ≡ true) ⌝ }
+        requires { ⌜ (figure (regsOf self) (self .code) ≡ Cells (lie (regsOf self)) b) × Sized b × (bodyCycles b ≤ 12288) ⌝ }
         ensures { λ r. ⌜ Grants self n (now (pic .entry)) (now (table .entry)) r (now (pic .exit)) ⌝ }
     {
-        let b = self.body();
         let cycles = b.columns * b.rows;
         let number = self.step_number(cycles, pic.len(), table.len());
         if number != 0 {
@@ -162,6 +162,14 @@ impl Gdp {
         let used = least(n, left);
         let s = self.draw_letter(b, used, pic, table);
         self.after_run(used, left, s)
+    }
+
+    // A running character or block.
+    fn grant_letter(self, n: u16, pic: &mut [u8], table: &[u8]) -> Answer
+        requires { ⌜ (stray self ≡ false) × (workIn (self .modes) ≡ 1) × (lettering (kind (self .code)) ≡ true) ⌝ }
+        ensures { λ r. ⌜ Grants self n (now (pic .entry)) (now (table .entry)) r (now (pic .exit)) ⌝ }
+    {
+        self.grant_body(self.body(), n, pic, table)
     }
 
     // A running vector.
@@ -207,8 +215,8 @@ impl Gdp {
             Kind::NoCycle => refused(1, self),
             Kind::OneCycle => self.grant_pause(n, pic, table),
             Kind::Vector => self.grant_line(n, pic, table),
-            Kind::Character => self.grant_body(n, pic, table),
-            Kind::Block => self.grant_body(n, pic, table),
+            Kind::Character => self.grant_letter(n, pic, table),
+            Kind::Block => self.grant_letter(n, pic, table),
         }
     }
 

@@ -14,34 +14,28 @@ use Rattle.gdp.proofs.state.Gdp.grant_body.Statement.{statement}
 use Rattle.gdp.proofs.state.Gdp.grant_body.Tie as tie
 
 -- the command steps, and its figure is at hand
-letter : (c : tie.After-body) → let self = c .before .before .before .args .self in Stepping self (Cells (lie (regsOf self)) (c .body .result))
-letter c =
-    let s = c .before .before .before in
-    figure-steps (s .args .self) (s .pre .0) (s .pre .1) (c .body .ensures .0)
+letter : (s : tie.Start) → let a = s .args in Stepping (a .self) (Cells (lie (regsOf (a .self))) (a .b))
+letter s = figure-steps (s .args .self) (s .pre .0 .0) (s .pre .0 .1) (s .pre .1 .0)
 
 mul-cycles : tie.Need-mul-cycles
 unfolding bodyCycles
-mul-cycles c = omega (arith, c .before .body .ensures .2)
+mul-cycles c = omega (arith, c .before .before .before .pre .1 .2)
 
 returns : tie.Need-returns
 unfolding cyclesOf bodyCycles
 returns c =
     let on = c .before .before in
-    rw (c .refused .ensures) (step-refused (letter (on .before .before)) _ _ refl _ (on .step-number .ensures) (c .before .if1 .taken))
+    rw (c .refused .ensures) (step-refused (letter (on .before .before .before .before)) _ _ refl _ (on .step-number .ensures) (c .before .if1 .taken))
 
 -- past the refusals it has cycles left
-abbrev found : tie.Else1 → tie.After-body
-found c = c .before .before .before
-
 abbrev start : tie.Else1 → tie.Start
-start c = found c .before .before .before
+start c = c .before .before .before .before .before
 
 going : (c : tie.Else1) →
     let a = start c .args in
-    let b = found c .body .result in
-    Going (a .self) (Cells (lie (regsOf (a .self))) b) (a .pic .now) (a .table .now) (b .columns * b .rows)
+    Going (a .self) (Cells (lie (regsOf (a .self))) (a .b)) (a .pic .now) (a .table .now) (a .b .columns * a .b .rows)
 unfolding cyclesOf bodyCycles
-going c = step-goes (letter (found c)) _ _ refl (c .before .step-number .ensures) (c .if1 .left)
+going c = step-goes (letter (start c)) _ _ refl (c .before .step-number .ensures) (c .if1 .left)
 
 sub-left : tie.Need-sub-left
 sub-left c = omega (arith, going (c .before) .some)
@@ -54,9 +48,9 @@ draw-letter-requires c κs =
     let byte : s .args .self .code < 256 = omega (arith, c .before .before .struct-known2 .given) in (
       on-screen g,
       (
-        found past .body .ensures .1,
-        omega (arith, found past .body .ensures .2),
-        has-table (s .args .self .code) _ byte (s .pre .2) (g .table),
+        s .pre .1 .1,
+        omega (arith, s .pre .1 .2),
+        has-table (s .args .self .code) _ byte (s .pre .0 .2) (g .table),
         run-granted g _ refl (c .before .least .ensures),
       ),
     )
@@ -66,7 +60,7 @@ unfolding bodyCycles
 after-run-requires c κs =
     let least = c .before .before .before .before in
     let past = least .before .before in
-    omega (arith, going past .some, found past .body .ensures .2, least .least .ensures)
+    omega (arith, going past .some, start past .pre .1 .2, least .least .ensures)
 
 returns-2 : tie.Need-returns-2
 returns-2 c =
@@ -76,13 +70,12 @@ returns-2 c =
     let s = start past in
     step-granted (going past) _ refl (least .least .ensures)
     (drawn .draw-letter .ensures)
-    (c .after-run .ensures (plain-named (s .args .self) (s .pre .0)) (s .pre .1))
+    (c .after-run .ensures (plain-named (s .args .self) (s .pre .0 .0)) (s .pre .0 .1))
 
 pub grant-body-spec : {M : Type 1} → statement M
 grant-body-spec =
     tie.close
     (tie.spec
-    (λ c κs. c .before .before .pre .2)
     mul-cycles
     (λ c κs. search needs)
     (λ c κs. search needs)

@@ -27,14 +27,14 @@ grant-line-requires c κs =
     let p = start on .pre in
     (p .0, p .1, found on (c .before .enum-told3 .given .1))
 
-grant-body-requires : tie.Need-grant-body-requires
-grant-body-requires c κs =
+grant-letter-requires : tie.Need-grant-letter-requires
+grant-letter-requires c κs =
     let on = c .before .before .before in
     let p = start on .pre in
     (p .0, p .1, ap lettering (found on (c .before .enum-told4 .given .1)))
 
-grant-body-requires-2 : tie.Need-grant-body-requires-2
-grant-body-requires-2 c κs =
+grant-letter-requires-2 : tie.Need-grant-letter-requires-2
+grant-letter-requires-2 c κs =
     let on = c .before .before .before in
     let p = start on .pre in
     (p .0, p .1, ap lettering (found on (c .before .enum-told5 .given .1)))
@@ -58,9 +58,9 @@ grant-steps-spec =
     (λ c. search needs)
     grant-line-requires
     (λ c. search needs)
-    grant-body-requires
+    grant-letter-requires
     (λ c. search needs)
-    grant-body-requires-2
+    grant-letter-requires-2
     returns
     (λ c. search needs)
     (λ c. search needs)
