@@ -78,17 +78,17 @@ enum {
 
 /* The state. Make it by gdp_fresh and hand on what each call answers; it may be copied, kept and read freely.
    Refused with 1: x or y above 4,095; ctrl1 above 127; ctrl2 above 15; bit 1 of xlp high; a command that steps and takes
-   no cycles, or has a done that is not below its cycles; VB high inside an open frame
-   of a clear (either one, where it has two) or the pen; and a number that names no format, no kind of work or no pen
-   sequence, for such bytes cannot be read as a state. What is not in use is not looked at: done and code where no
-   command steps, the bits of a clear where none runs, the bits that are named so below. An accepted call hands it back
-   as 0, a refusal as it came. */
+   no cycles, or has a done that is not below its cycles; VB high inside an open frame of a clear (either one, where it has
+   two) or the pen; and a number that names no format, no kind of work or no pen sequence, for such bytes cannot be read as
+   a state. What is not in use is not looked at: done and code where no command steps, the bits of a clear where none runs,
+   the bits that are named so below. An accepted call hands it back as 0, a refusal as it came. */
 typedef struct gdp_state {
     uint16_t x, y;    /* 12 bits each; while a command steps, the place of its next cycle */
     uint16_t done;    /* the cycles that the stepping command has used; else not in use */
     uint8_t ctrl1;    /* 7 bits: 0 down, 1 pen (else eraser), 2 fast writing, 3 cyclic screen; 4 to 6 let the rise of
                          pen end, VB and ready set its flag */
-    uint8_t ctrl2;    /* 4 bits: 0 and 1 line type; characters and blocks: 2 tilted (slanted), 3 turned (they run upwards) */
+    uint8_t ctrl2;    /* 4 bits: 0 and 1 line type; characters and blocks: 2 tilted (slanted), 3 turned (they run
+                         upwards) */
     uint8_t csize;    /* P in the upper half, Q in the lower; 0 means 16 */
     uint8_t deltax, deltay;
     uint8_t xlp, ylp; /* where the light pen was */

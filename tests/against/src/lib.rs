@@ -22,6 +22,7 @@ pub mod library;
 pub mod log;
 pub mod memory;
 pub mod model;
+pub mod panel;
 pub mod pbm_coverage;
 pub mod program;
 pub mod random;

@@ -2,13 +2,12 @@
 //! after the command begins ends one, in the other formats the first. Until then the picture stays and ready is low.
 
 use against::card::Card;
-use against::draw::arguments::bytes;
+use against::draw::arguments::{bytes, TABLE_BYTES};
 use against::draw::count;
 use against::draw::states::FORMATS;
-use against::flat::{Flat, FlatAnswer};
-use against::lent::Part;
 use against::library::Library;
 use against::model::Model;
+use against::panel::Panel;
 use against::random::Random;
 
 const CLEARS: [u8; 4] = [0x04, 0x06, 0x07, 0x0C];
@@ -20,65 +19,31 @@ const READY: u16 = 1 << 2;
 const READY_FLAG: u16 = 1 << 6;
 const BUSY: u8 = 6;
 
-struct Panel<'c, C: Card> {
-    card: &'c C,
-    state: Flat,
-    picture: Vec<u8>,
+/// STATUS, its flags left as they are.
+fn status(panel: &Panel<impl Card>) -> u16 {
+    panel.card.read(panel.state, 0).value
 }
 
-impl<C: Card> Panel<'_, C> {
-    fn accepted(&mut self, answer: FlatAnswer) -> u16 {
-        assert_eq!(answer.number, 0);
-        self.state = answer.state;
-        answer.value
-    }
-
-    fn write(&mut self, address: u8, value: u8) {
-        let answer = self.card.write(self.state, address, value);
-        self.accepted(answer);
-    }
-
-    fn set_vb(&mut self, level: bool) {
-        let length = self.picture.len();
-        let picture = Part { whole: &mut self.picture, start: 0, length };
-        let answer = self.card.set_vb(self.state, u8::from(level), picture);
-        self.accepted(answer);
-    }
-
-    fn grant(&mut self, n: u16) -> u16 {
-        let length = self.picture.len();
-        let picture = Part { whole: &mut self.picture, start: 0, length };
-        let table = Part { whole: &mut [0xFF; 480], start: 0, length: 480 };
-        let answer = self.card.grant(self.state, n, picture, table);
-        self.accepted(answer)
-    }
-
-    /// STATUS, its flags left as they are.
-    fn status(&self) -> u16 {
-        self.card.read(self.state, 0).value
-    }
-
-    /// What a host may do while it waits; nothing of it counts as a frame.
-    fn wait(&mut self, random: &mut Random) {
-        match random.below(4) {
-            0 => assert_eq!(self.grant(random.word()), 0),
-            1 => assert_eq!(self.card.write(self.state, random.pick(&[0, 1, 9]), 0x04).number, BUSY),
-            2 => {
-                let answer = self.card.lpck(self.state, random.among(0, 63), random.among(0, 255));
-                self.accepted(answer);
-            }
-            _ => {
-                let answer = self.card.read(self.state, random.among(1, 3) as u8);
-                self.accepted(answer);
-            }
+/// What a host may do while it waits; nothing of it counts as a frame.
+fn wait(panel: &mut Panel<impl Card>, random: &mut Random) {
+    match random.below(4) {
+        0 => assert_eq!(panel.grant(random.word()), 0),
+        1 => assert_eq!(panel.card.write(panel.state, random.pick(&[0, 1, 9]), 0x04).number, BUSY),
+        2 => {
+            let answer = panel.card.lpck(panel.state, random.among(0, 63), random.among(0, 255));
+            panel.accepted(answer);
+        }
+        _ => {
+            let answer = panel.card.read(panel.state, random.among(1, 3) as u8);
+            panel.accepted(answer);
         }
     }
 }
 
 /// Levels of VB at random until the clear is over.
 fn carried(card: &impl Card, random: &mut Random, format: usize, code: u8) {
-    let state = card.fresh(format as u8).state;
-    let mut panel = Panel { card, state, picture: vec![0; bytes(FORMATS[format])] };
+    let mut panel =
+        Panel::fresh(card, format as u8, vec![0; bytes(FORMATS[format])], vec![0xFF; TABLE_BYTES]);
     random.fill(&mut panel.picture);
     panel.write(1, random.byte() & PEN | READY_MASK);
     let mut vb = random.flag();
@@ -88,8 +53,8 @@ fn carried(card: &impl Card, random: &mut Random, format: usize, code: u8) {
     let mut falls = 0;
     loop {
         assert!(panel.picture == before, "{code:02X} on format {format} after {falls} falls");
-        assert_eq!(panel.status() & (READY | READY_FLAG), 0, "{code:02X} on format {format}");
-        panel.wait(random);
+        assert_eq!(status(&panel) & (READY | READY_FLAG), 0, "{code:02X} on format {format}");
+        wait(&mut panel, random);
         let level = random.flag();
         panel.set_vb(level);
         let rises = level && !vb;
@@ -103,7 +68,7 @@ fn carried(card: &impl Card, random: &mut Random, format: usize, code: u8) {
     assert!(panel.picture.iter().all(|byte| *byte == filled), "{code:02X} on format {format}");
     // 07 has cleared the mask.
     let flag = if code == 0x07 { 0 } else { READY_FLAG };
-    assert_eq!(panel.status() & (READY | READY_FLAG), READY | flag, "{code:02X} on format {format}");
+    assert_eq!(status(&panel) & (READY | READY_FLAG), READY | flag, "{code:02X} on format {format}");
     assert_eq!(usize::from(panel.state.modes), format, "nothing runs, and nothing is left over");
 }
 

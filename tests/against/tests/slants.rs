@@ -8,11 +8,11 @@ use against::draw::arguments::TABLE_BYTES;
 use against::draw::letter::{code, place_in_sight};
 use against::draw::states::{csize, ctrl1, delta, FORMATS};
 use against::draw::{count, pbm};
-use against::flat::{Flat, FlatAnswer, READY_FLAG, WORK};
+use against::flat::{Flat, READY_FLAG, WORK};
 use against::formula::{stepped_around, written, Character, DOWN, PEN, TILT};
-use against::lent::Part;
 use against::library::Library;
 use against::model::Model;
+use against::panel::Panel;
 use against::random::Random;
 use second::State;
 
@@ -22,56 +22,22 @@ const LISTS: usize = 400;
 /// CTRL1: the mask of the ready flag.
 const READY_MASK: u8 = 1 << 6;
 
-/// A card with its state and what is lent to it; every call must be accepted.
-struct Panel<'c, C: Card> {
-    card: &'c C,
-    state: Flat,
-    picture: Vec<u8>,
-    table: Vec<u8>,
-}
-
-impl<'c, C: Card> Panel<'c, C> {
-    /// Nothing runs; X and Y are in sight, the other registers of drawing at random.
-    fn at_random(card: &'c C, random: &mut Random) -> Panel<'c, C> {
-        let number = random.below(3) as u8;
-        let format = FORMATS[usize::from(number)];
-        let (picture, mut table) = (pbm::drawn(random, format), vec![0; TABLE_BYTES]);
-        random.fill(&mut table);
-        let mut panel = Panel { card, state: card.fresh(number).state, picture, table };
-        let (x, y) = place_in_sight(random, format);
-        let registers = [
-            (1, ctrl1(random)),
-            (2, random.byte()),
-            (3, csize(random)),
-            (5, delta(random)),
-            (7, delta(random)),
-        ];
-        registers.iter().for_each(|(address, value)| panel.write(*address, *value));
-        for (address, position) in [(8, x), (10, y)] {
-            panel.write(address, (position >> 8) as u8);
-            panel.write(address + 1, position as u8);
-        }
-        panel
+/// Nothing runs; X and Y are in sight, the other registers of drawing at random.
+fn at_random<'c, C: Card>(card: &'c C, random: &mut Random) -> Panel<'c, C> {
+    let number = random.below(3) as u8;
+    let format = FORMATS[usize::from(number)];
+    let (picture, mut table) = (pbm::drawn(random, format), vec![0; TABLE_BYTES]);
+    random.fill(&mut table);
+    let mut panel = Panel::fresh(card, number, picture, table);
+    let (x, y) = place_in_sight(random, format);
+    let registers =
+        [(1, ctrl1(random)), (2, random.byte()), (3, csize(random)), (5, delta(random)), (7, delta(random))];
+    registers.iter().for_each(|(address, value)| panel.write(*address, *value));
+    for (address, position) in [(8, x), (10, y)] {
+        panel.write(address, (position >> 8) as u8);
+        panel.write(address + 1, position as u8);
     }
-
-    fn accepted(&mut self, answer: FlatAnswer) -> u16 {
-        assert_eq!(answer.number, 0);
-        self.state = answer.state;
-        answer.value
-    }
-
-    fn write(&mut self, address: u8, value: u8) {
-        let answer = self.card.write(self.state, address, value);
-        assert_eq!(self.accepted(answer), 0);
-    }
-
-    fn grant(&mut self, n: u16) -> u16 {
-        let (length, table_length) = (self.picture.len(), self.table.len());
-        let picture = Part { whole: &mut self.picture, start: 0, length };
-        let table = Part { whole: &mut self.table, start: 0, length: table_length };
-        let answer = self.card.grant(self.state, n, picture, table);
-        self.accepted(answer)
-    }
+    panel
 }
 
 /// A character that has just been given, and what it must come to.
@@ -132,7 +98,7 @@ fn portion(random: &mut Random, rest: u16) -> u16 {
 
 /// One character to its end, by portions; whether it changed the picture.
 fn draws(card: &impl Card, random: &mut Random, way: u8) -> bool {
-    let mut panel = Panel::at_random(card, random);
+    let mut panel = at_random(card, random);
     panel.write(2, way << 2 | random.byte() & 3);
     panel.write(0, code(random));
     let before = panel.picture.clone();
@@ -207,7 +173,7 @@ fn played(
 
 /// Whether the list writes a dot at all.
 fn erases(card: &impl Card, random: &mut Random) -> bool {
-    let mut panel = Panel::at_random(card, random);
+    let mut panel = at_random(card, random);
     let (list, before) = (list(random), panel.picture.clone());
     let dark = vec![0; before.len()];
     let dots = played(&mut panel, random, &list, PEN, &dark);
