@@ -6,7 +6,7 @@ use mathlib.Core.Logic.{⊎-elim}
 use mathlib.Core.Bool.{Bool, true, false, _&&_}
 use mathlib.Core.List.{List, [], _∷_, append-nil}
 use Prim.Native.Nat.{ℕ, _+_, _-_, _*_, _/_, _≤_, _<_}
-use native.Mathlib.Nat.{zero-add, add-zero, zero-mul, add-mul, mul-add, one-mul, mul-one, mul-zero, mul-assoc, mul-le-mul, mul-le-mul-right}
+use native.Mathlib.Nat.{zero-add, add-zero, zero-mul, add-mul, mul-add, one-mul, mul-one, mul-assoc, mul-le-mul, mul-le-mul-right}
 use native.Mathlib.Omega.{arith}
 use Rattle.picture.specs.Dot.{paint, gathered}
 use Rattle.picture.specs.Working.Runs.{upFrom, rowsFrom}

@@ -5,7 +5,7 @@ use mathlib.Core.Path.{_≡_, refl, sym, _∙_}
 use mathlib.Core.Bool.{Bool, true, false}
 use mathlib.Core.Logic.{⊎-elim}
 use Prim.Native.Nat.{ℕ, _+_, _-_, _*_, _/_, _≤_, _<_}
-use native.Mathlib.Nat.{mul-mul-mul-comm, mul-assoc, mul-le-mul, mod-lt, div-lt-iff-lt-mul, add-zero, zero-add, le-refl, lt-of-lt-of-le}
+use native.Mathlib.Nat.{mul-mul-mul-comm, mul-assoc, mul-le-mul, mod-lt, div-lt-iff-lt-mul, add-zero, le-refl, lt-of-lt-of-le}
 use native.Mathlib.Omega.{arith}
 use lib.Arith.{digits-lt, digits-div, digits-mod}
 use lib.Dec.{eqb}

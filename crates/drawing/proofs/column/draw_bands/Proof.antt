@@ -1,7 +1,7 @@
 -- `drawing::column::draw_bands` meets its contract. The loop's invariant: so many rows of the glyph are painted, and where one is
 -- left, its dots begin as much back from d as each row's. The measure is the rows of dots left.
 -- Assumes nothing.
-use mathlib.Core.Path.{_≡_, refl, sym, _∙_}
+use mathlib.Core.Path.{_≡_, refl, sym}
 use Prim.Native.Nat.{ℕ, _+_, _*_, _-_, _/_, _≤_, _<_}
 use native.Mathlib.Nat.{zero-mul, add-mul, one-mul, lt-of-mul-lt-mul-right, le-of-mul-le-mul-right}
 use native.Mathlib.Omega.{arith}
