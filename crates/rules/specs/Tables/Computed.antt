@@ -26,8 +26,8 @@ use Rattle.rules.specs.Tables.FormatRows.{of as o-of, answerOf as o-answ
 use Rattle.rules.specs.Tables.FreeRows.{other as p-other, commandsAt as p-commandsAt, registersWith as p-registersWith, freeWrites as p-freeWrites, valuesAt as p-valuesAt, counting as p-counting, freeReads as p-freeReads, freeFrames as p-freeFrames, twoOfFour as p-twoOfFour, allDots as p-allDots, inPortions as p-inPortions, atOnce as p-atOnce, portioned as p-portioned, outward as p-outward, outwardly as p-outwardly, ofSize as p-ofSize, half as p-half, stands as p-stands, large as p-large, grantedTo as p-grantedTo, freeGrants as p-freeGrants, freeRefusals as p-freeRefusals}
 use Rattle.rules.specs.Frames.{levelsIn, risesIn, framesAfter, unwritten}
 use Rattle.rules.specs.Tables.TwoFrames.{toldTo as t-toldTo, called as t-called, repainted as t-repainted, traced as t-traced, trace as t-trace, kept as t-kept, darkened as t-darkened, lit as t-lit, low as t-low, high as t-high, twice as t-twice, clearing as t-clearing, twoFrames as t-twoFrames}
-use Rattle.rules.specs.Tables.Slants.{slope as s-slope, column as s-column, climb as s-climb, withF as s-withF, f as s-f, some as s-some, solid as s-solid, slanted as s-slanted, slantParts as s-slantParts, slantEdges as s-slantEdges, untilted as s-untilted}
+use Rattle.rules.specs.Tables.Slants.{slope as s-slope, column as s-column, climb as s-climb, slopes as s-slopes, climbs as s-climbs, marks as s-marks, marked as s-marked, withF as s-withF, f as s-f, some as s-some, solid as s-solid, slanted as s-slanted, slantParts as s-slantParts, slantEdges as s-slantEdges, untilted as s-untilted}
 
 unfoldable pub computed : Unit {0}
-unfolding of-parts of-drawing fresh lightPenRaises vbRaises readyRaises outside flagged status registerAt lightPenRead afterRead stored commanded clearing prompt begun afterWrite lie figureBy figure cycles glyph penDown lights cyclic tip start leftOf left used dotsOf dots rested afterOf after fallen clearEnds lightPenEnds risen afterVb pictureVb afterEdge badRegs badWork bad wrongPicture wrongTable noRegister readOnly busy offScreen writeNumber readNumber grantNumber vbNumber edgeNumber addressNumber answer outcome written readOut granted blanked struck noOutputs located outcomeOf next played noteOf noted said drawn ends lines addressed dark blank new row box numbers just card pen cyclicPen from draw offRight offTop cell readings frame registers prompts flagReadings full clears lightPens fan directions vectors lineTypes lettered letter characters walkX walkY addresses six withRow running inFrame codes refused taken takenBusy states moreReadings dotted bytesLit edged aimed sized fineReadings row-nth row-but row-high row-formatNamed row-penNamed row-framesNamed row-workNamed row-stated row-formatTold row-penTold row-framesTold row-workTold row-shown row-answered row-writes row-reads row-strikes row-gives row-refuses row-rich r-ramps r-steps r-sixteen r-bytesAt r-bytesThrough r-oneChanges r-endsOf r-halvesOf r-halves r-numbersOf r-none r-running r-clearing r-addressNumbers r-flagged r-readAt r-eachRead c-ctrl1 c-at c-waits c-begins c-sixteenOf c-shortCommands c-longCommands f-doing f-scene f-mask f-falls f-rises f-blankings f-levels f-levelsFlagged f-pictured f-asIs f-pictures f-openFrames f-struckTo f-lpckEdges f-positions f-placed f-statusOf f-statusBits f-statuses f-statusRows f-outsideBits f-upper f-outsides d-counted d-lettered d-granting d-sizes d-size d-stroke d-strokeX d-strokeY d-strokeDots d-strokeAfter d-strokes d-dashed d-fourTypes d-lineTypeRows d-lean d-letter d-letterAt d-letterAfter d-inks d-inkDots d-letterSize d-letterFrom d-letters d-any d-counts d-full d-ran d-over d-ended d-farX d-farY d-endX d-endY d-vectorRan d-letterRan d-blockRan d-codes d-nothingLeft d-oneDot d-ctrl1Bits d-ctrl2Bits d-strokeRows d-letterRows d-slantedLetterRows d-turnedRows d-slantedRows d-codeRows n-flaw n-six n-refusedSix n-flaws n-limits n-doing n-lengths n-lengthOf n-progress n-lent n-memories n-other n-kept n-answerRows n-outputs n-outputRows n-carded n-afterEvent n-lentRow n-events o-of o-answerOf o-alike o-formatWrites o-formatReads o-behind o-levelled o-lastFrame o-levels o-formatFrames o-edgeRows o-flawRows p-other p-commandsAt p-registersWith p-freeWrites p-valuesAt p-counting p-freeReads p-freeFrames p-twoOfFour p-allDots p-inPortions p-atOnce p-portioned p-outward p-outwardly p-ofSize p-half p-stands p-large p-grantedTo p-freeGrants p-freeRefusals levelsIn risesIn framesAfter unwritten t-toldTo t-called t-repainted t-traced t-trace t-kept t-darkened t-lit t-low t-high t-twice t-clearing t-twoFrames s-slope s-column s-climb s-withF s-f s-some s-solid s-slanted s-slantParts s-slantEdges s-untilted
+unfolding of-parts of-drawing fresh lightPenRaises vbRaises readyRaises outside flagged status registerAt lightPenRead afterRead stored commanded clearing prompt begun afterWrite lie figureBy figure cycles glyph penDown lights cyclic tip start leftOf left used dotsOf dots rested afterOf after fallen clearEnds lightPenEnds risen afterVb pictureVb afterEdge badRegs badWork bad wrongPicture wrongTable noRegister readOnly busy offScreen writeNumber readNumber grantNumber vbNumber edgeNumber addressNumber answer outcome written readOut granted blanked struck noOutputs located outcomeOf next played noteOf noted said drawn ends lines addressed dark blank new row box numbers just card pen cyclicPen from draw offRight offTop cell readings frame registers prompts flagReadings full clears lightPens fan directions vectors lineTypes lettered letter characters walkX walkY addresses six withRow running inFrame codes refused taken takenBusy states moreReadings dotted bytesLit edged aimed sized fineReadings row-nth row-but row-high row-formatNamed row-penNamed row-framesNamed row-workNamed row-stated row-formatTold row-penTold row-framesTold row-workTold row-shown row-answered row-writes row-reads row-strikes row-gives row-refuses row-rich r-ramps r-steps r-sixteen r-bytesAt r-bytesThrough r-oneChanges r-endsOf r-halvesOf r-halves r-numbersOf r-none r-running r-clearing r-addressNumbers r-flagged r-readAt r-eachRead c-ctrl1 c-at c-waits c-begins c-sixteenOf c-shortCommands c-longCommands f-doing f-scene f-mask f-falls f-rises f-blankings f-levels f-levelsFlagged f-pictured f-asIs f-pictures f-openFrames f-struckTo f-lpckEdges f-positions f-placed f-statusOf f-statusBits f-statuses f-statusRows f-outsideBits f-upper f-outsides d-counted d-lettered d-granting d-sizes d-size d-stroke d-strokeX d-strokeY d-strokeDots d-strokeAfter d-strokes d-dashed d-fourTypes d-lineTypeRows d-lean d-letter d-letterAt d-letterAfter d-inks d-inkDots d-letterSize d-letterFrom d-letters d-any d-counts d-full d-ran d-over d-ended d-farX d-farY d-endX d-endY d-vectorRan d-letterRan d-blockRan d-codes d-nothingLeft d-oneDot d-ctrl1Bits d-ctrl2Bits d-strokeRows d-letterRows d-slantedLetterRows d-turnedRows d-slantedRows d-codeRows n-flaw n-six n-refusedSix n-flaws n-limits n-doing n-lengths n-lengthOf n-progress n-lent n-memories n-other n-kept n-answerRows n-outputs n-outputRows n-carded n-afterEvent n-lentRow n-events o-of o-answerOf o-alike o-formatWrites o-formatReads o-behind o-levelled o-lastFrame o-levels o-formatFrames o-edgeRows o-flawRows p-other p-commandsAt p-registersWith p-freeWrites p-valuesAt p-counting p-freeReads p-freeFrames p-twoOfFour p-allDots p-inPortions p-atOnce p-portioned p-outward p-outwardly p-ofSize p-half p-stands p-large p-grantedTo p-freeGrants p-freeRefusals levelsIn risesIn framesAfter unwritten t-toldTo t-called t-repainted t-traced t-trace t-kept t-darkened t-lit t-low t-high t-twice t-clearing t-twoFrames s-slope s-column s-climb s-slopes s-climbs s-marks s-marked s-withF s-f s-some s-solid s-slanted s-slantParts s-slantEdges s-untilted
 computed = tt
