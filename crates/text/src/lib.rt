@@ -1,6 +1,8 @@
 // Bytes as text: a byte searched, fields read as numbers, bytes and decimal numbers written into a lent buffer.
 // Proved: each function answers or writes exactly what specs/ names. Crates above cite the laws of proofs/Laws.
 // Assumes nothing.
+#![tactic(auto)]
+
 pub mod digits;
 pub mod find;
 pub mod number;

@@ -1,0 +1,15 @@
+-- `picture::run::paint_run` meets its contract. The loop's invariant: the first `done` dots are painted.
+-- The measure is the dots left.
+-- Assumes nothing.
+use mathlib.Core.Path.{◌≡◌}
+use Prim.Native.Nat.{◌-◌, ◌≤◌}
+use lib.ListN.{length}
+use Rattle.picture.specs.Dot.{paint}
+use Rattle.picture.specs.Working.Runs.{up_from}
+use Rattle.picture.proofs.run.paint_run.Given as goal
+
+abbrev pub invariant-loop-done : goal.invariant-loop-done
+invariant-loop-done l = (l.done ≤ l.n) × (length l.pic ≡ length l.initial.pic) × (l.pic ≡ paint l.lit (up_from l.d l.done) l.initial.pic)
+
+abbrev pub decreases-loop-done : goal.decreases-loop-done
+decreases-loop-done l = l.n - l.done

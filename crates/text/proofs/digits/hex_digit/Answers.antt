@@ -1,0 +1,14 @@
+-- `text::digits::hex_digit` meets its contract: by the test.
+-- Assumes nothing.
+use borrow.Author.Rules.{rules}
+use borrow.Author.Tests.{lt-ltb, le-ltb}
+use Rattle.text.specs.Numbers.{hex_digit}
+use Rattle.text.proofs.digits.hex_digit.Goals as goal
+
+pub returns-then-d-lt10 : goal.returns-then-d-lt10
+unfolding hex_digit
+returns-then-d-lt10 c = rw (lt-ltb _ 10 c.if-d-lt10.true)
+
+pub returns-else-d-lt10 : goal.returns-else-d-lt10
+unfolding hex_digit
+returns-else-d-lt10 c = rw (le-ltb _ 10 c.if-d-lt10.false)

@@ -1,0 +1,15 @@
+-- `text::number::number_of` meets its contract. The loop's invariant: the bytes passed are digits, n is their number, and the
+-- rest decides (`Passed`). The measure is the bytes left.
+-- Assumes nothing.
+use Prim.Native.Nat.{◌-◌}
+use native.Mathlib.Omega.{arith}
+use borrow.Author.Rules.{rules}
+use lib.ListN.{length}
+use Rattle.text.proofs.Numbers.{too_short, too_long, Passed, passed_none, fits, passed-more, passed-bad, taken-all, taken_none}
+use Rattle.text.proofs.number.number_of.Given as goal
+
+abbrev pub invariant-loop-i : goal.invariant-loop-i
+invariant-loop-i l = Passed l.base l.f l.n l.i
+
+abbrev pub decreases-loop-i : goal.decreases-loop-i
+decreases-loop-i l = length l.f - l.i
