@@ -1,6 +1,8 @@
 // The library: the calls as C and Rust see them. A slice crosses as a pointer and a length; the caller lends that much memory,
 // and lends a memory that a call may write to nobody else meanwhile.
 // Proved: each call gives, for every argument and every lent memory, exactly what the crates below name. Assumes nothing.
+#![tactic(auto)]
+
 ghost use Rattle.std.specs.Prelude.{◌≡◌};
 ghost use Rattle.rules.specs.Calls.{written, read_out, struck, located};
 ghost use Rattle.gdp.specs.Flat.{state_of};

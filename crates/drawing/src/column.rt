@@ -65,7 +65,7 @@ pub(crate) fn is_whole(t: Tip, lie: Lie, b: Body, c: Cell, left: u16) -> bool
 
 // How a column of the glyph is painted: each row of the glyph is so many lines of so many dots, a stride apart; the next row begins
 // so many dots ahead, or back. All this so many times, each one line of the window above the one before.
-#[derive(Drop)]
+#[derive(Clone, Copy)]
 pub struct Bands {
     pub dots: u16,
     pub lines: u16,

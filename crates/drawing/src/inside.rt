@@ -18,7 +18,7 @@ use picture::dot::set_dot;
 use picture::screen::Window;
 
 // The next dot's number in the picture and in the vector, and its error term.
-#[derive(Drop)]
+#[derive(Clone, Copy)]
 struct Trace {
     dot: usize,
     i: u16,
@@ -26,7 +26,7 @@ struct Trace {
 }
 
 // What one dot along the longer axis adds to the number of a dot, and one along both axes.
-#[derive(Drop)]
+#[derive(Clone, Copy)]
 struct Strides {
     straight: usize,
     diagonal: usize,

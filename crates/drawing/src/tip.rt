@@ -10,7 +10,7 @@ use picture::run::paint_rows;
 use picture::screen::{Window, put_dot};
 
 // The window; whether the tip is down, and whether it lights (the pen) or darkens (the eraser).
-#[derive(Drop)]
+#[derive(Clone, Copy)]
 pub struct Tip {
     pub window: Window,
     pub down: bool,
@@ -18,7 +18,7 @@ pub struct Tip {
 }
 
 // A run of cycles: X and Y on the place of cycle `from`, and how many cycles.
-#[derive(Drop)]
+#[derive(Clone, Copy)]
 pub struct Run {
     pub at: Spot,
     pub from: u16,

@@ -10,7 +10,7 @@ use parts::address::outputs;
 
 // The refusal number or 0, DAD while CK is low, DAD while CK is high, and MSL.
 #[repr(C)]
-#[derive(Drop)]
+#[derive(Clone, Copy)]
 pub struct Outputs {
     pub number: u8,
     pub low: u8,

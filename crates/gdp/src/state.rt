@@ -16,7 +16,7 @@ use picture::dot::bit_at;
 // the format; VB, the light pen's sequence and the flags. What is not in use is not looked at, and 0 in what an accepted call
 // hands back.
 #[repr(C)]
-#[derive(Drop)]
+#[derive(Clone, Copy)]
 pub struct Gdp {
     pub x: u16,
     pub y: u16,
@@ -35,7 +35,7 @@ pub struct Gdp {
 
 // The refusal number or 0, the value, and the next state.
 #[repr(C)]
-#[derive(Drop)]
+#[derive(Clone, Copy)]
 pub struct Answer {
     pub number: u8,
     pub value: u16,

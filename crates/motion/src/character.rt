@@ -7,7 +7,7 @@ ghost use Rattle.motion.specs.Working.Cells.{Sized, Counts, OnPlace};
 use crate::position::{Spot, moved};
 
 // P and Q, and the columns and rows of dots that are stepped through.
-#[derive(Drop)]
+#[derive(Clone, Copy)]
 pub struct Body {
     pub p: u16,
     pub q: u16,
@@ -16,14 +16,14 @@ pub struct Body {
 }
 
 // How the letters lie: turned, so that they run upwards, and tilted.
-#[derive(Drop)]
+#[derive(Clone, Copy)]
 pub struct Lie {
     pub turned: bool,
     pub tilted: bool,
 }
 
 // The place of the next cycle, its number i, and its counters: v, v / Q, v mod Q, u / P, u mod P.
-#[derive(Drop)]
+#[derive(Clone, Copy)]
 pub struct Cell {
     pub at: Spot,
     pub i: u16,

@@ -4,7 +4,7 @@ ghost use Rattle.motion.specs.LineType.{line_on};
 ghost use Rattle.motion.specs.Working.Masks.{dashed, Repeats};
 
 // A period, and the dots of one period: bit j is 1 where dot j is on.
-#[derive(Drop)]
+#[derive(Clone, Copy)]
 pub struct LineType {
     pub period: u16,
     pub mask: u16,

@@ -3,7 +3,7 @@ ghost use Rattle.std.specs.Prelude.{◌≡◌, ◌≤◌};
 ghost use Rattle.motion.specs.Position.{ahead, behind, signed, moved};
 
 // A place, or a way from one place to another.
-#[derive(Drop)]
+#[derive(Clone, Copy)]
 pub struct Spot {
     pub x: u16,
     pub y: u16,

@@ -9,7 +9,7 @@ use crate::number::larger;
 use crate::position::advance;
 
 // The larger length and the smaller, whether Y is the longer axis, and whether X and Y fall.
-#[derive(Drop)]
+#[derive(Clone, Copy)]
 pub struct Line {
     pub long: u16,
     pub short: u16,
@@ -19,7 +19,7 @@ pub struct Line {
 }
 
 // The place of the next dot, its number, and its error term.
-#[derive(Drop)]
+#[derive(Clone, Copy)]
 pub struct Stroke {
     pub x: u16,
     pub y: u16,
@@ -28,7 +28,7 @@ pub struct Stroke {
 }
 
 // The error term one dot further, and by how much the shorter axis steps.
-#[derive(Drop)]
+#[derive(Clone, Copy)]
 pub struct Hop {
     pub step: u16,
     pub error: u16,

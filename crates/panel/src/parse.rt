@@ -6,7 +6,7 @@ use text::TAB;
 use text::find::find;
 use text::number::number_of;
 
-#[derive(Drop)]
+#[derive(Clone, Copy)]
 pub(crate) enum Record {
     Write { address: u8, value: u8 },
     Read { address: u8 },

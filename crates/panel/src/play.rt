@@ -10,7 +10,7 @@ use crate::parse::Record;
 use gdp::state::Gdp;
 
 // The state after a line, and the place behind its answer.
-#[derive(Drop)]
+#[derive(Clone, Copy)]
 pub(crate) struct Step {
     pub state: Gdp,
     pub at: usize,

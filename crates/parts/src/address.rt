@@ -7,7 +7,7 @@ ghost use Rattle.parts.specs.Working.Bytes.{down, Wired};
 use crate::format::Format;
 
 // DAD while CK is low, DAD while CK is high, and MSL.
-#[derive(Drop)]
+#[derive(Clone, Copy)]
 pub struct Address {
     pub low: u8,
     pub high: u8,
@@ -16,7 +16,7 @@ pub struct Address {
 
 // What a format leads to its lines: eight bits of X and eight of Y, of which DAD shows the six highest from the top down, and
 // on DAD6 the lowest of Y while CK is low; what DAD6 shows while CK is high; and MSL.
-#[derive(Drop)]
+#[derive(Clone, Copy)]
 pub(crate) struct Wiring {
     pub x: u8,
     pub y: u8,

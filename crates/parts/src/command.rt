@@ -3,7 +3,7 @@ ghost use Rattle.std.specs.Prelude.{◌≡◌};
 ghost use Rattle.parts.specs.Command.{kind, lettering, lining, prompting};
 
 // How a command uses write cycles: none (the clears too), one without a dot, or those of its figure.
-#[derive(Drop)]
+#[derive(Clone, Copy)]
 pub enum Kind {
     NoCycle,
     OneCycle,

@@ -4,7 +4,7 @@ ghost use Rattle.parts.specs.Format.{width, height, window, bytes, frames};
 
 use picture::screen::Window;
 
-#[derive(Drop)]
+#[derive(Clone, Copy)]
 pub enum Format {
     Ef9366,
     FmatHigh,

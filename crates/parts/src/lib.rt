@@ -1,6 +1,8 @@
 // The parts of the processor that need no register file: formats and their address lines, the command decoder,
 // the order of the refusals.
 // Proved: each function answers what specs/ says; no two positions share their address outputs. Assumes nothing.
+#![tactic(auto)]
+
 pub mod address;
 pub mod command;
 pub mod format;

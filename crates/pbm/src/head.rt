@@ -9,7 +9,7 @@ use crate::white::{HASH, is_white, pass};
 use text::digits::digit_value;
 
 // A whole number and the place behind it. From LARGE on numbers are not told apart: no picture is that wide.
-#[derive(Drop)]
+#[derive(Clone, Copy)]
 struct Whole {
     n: u32,
     end: usize,
@@ -55,7 +55,7 @@ fn is_marked(file: &[u8]) -> bool
 }
 
 // 10, 11, or 0 and the place of the dots.
-#[derive(Drop)]
+#[derive(Clone, Copy)]
 pub(crate) struct Head {
     pub number: u8,
     pub dots: usize,

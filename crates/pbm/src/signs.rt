@@ -7,7 +7,7 @@ ghost use Rattle.pbm.specs.Working.Eights.{Eights, Passes};
 use crate::white::pass;
 
 // Eight signs: whether they are dots, the byte that they show, and the place behind them.
-#[derive(Drop)]
+#[derive(Clone, Copy)]
 pub(crate) struct Eight {
     pub ok: bool,
     pub byte: u8,
@@ -15,7 +15,7 @@ pub(crate) struct Eight {
 }
 
 // Eight signs only looked at: whether they are dots, and the place behind them.
-#[derive(Drop)]
+#[derive(Clone, Copy)]
 pub(crate) struct Passed {
     pub ok: bool,
     pub end: usize,

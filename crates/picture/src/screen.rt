@@ -4,7 +4,7 @@ ghost use Rattle.picture.specs.Dot.{set_dot, paint};
 ghost use Rattle.picture.specs.Screen.{Screen, Power, folded, place, dot_number};
 
 // The window: its width and height, and whether the screen is cyclic.
-#[derive(Drop)]
+#[derive(Clone, Copy)]
 pub struct Window {
     pub width: usize,
     pub height: usize,

@@ -5,7 +5,7 @@ ghost use Rattle.text.specs.Taken.{Taken};
 use crate::digits::digit_value;
 
 // A field read as a number, where it is one.
-#[derive(Drop)]
+#[derive(Clone, Copy)]
 pub struct Number {
     pub ok: bool,
     pub n: u32,

@@ -1,6 +1,5 @@
 -- `text::digits::hex_digit` meets its contract: by the test.
 -- Assumes nothing.
-use borrow.Author.Rules.{rules}
 use borrow.Author.Tests.{lt-ltb, le-ltb}
 use Rattle.text.specs.Numbers.{hex_digit}
 use Rattle.text.proofs.digits.hex_digit.Goals as goal

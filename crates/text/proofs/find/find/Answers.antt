@@ -1,15 +1,12 @@
 -- `text::find::find` meets its contract. The loop's invariant: no place passed holds b. The measure is the bytes left.
 -- Assumes nothing.
-use mathlib.Core.Path.{◌≡◌}
-use Prim.Native.Nat.{ℕ, ◌≤◌, ◌<◌, ◌-◌}
 use borrow.Author.Count.{below_more}
 use borrow.Author.Rules.{rules}
-use lib.ListN.{length, get_or}
 use Rattle.text.proofs.find.find.Goals as goal
 
 pub returns-then-s-i : goal.returns-then-s-i
 returns-then-s-i c =
-    let inv = c.loop-i.invariant inv = c.before.before.before.loop.invariant in
+    let inv = c.loop-i.invariant in
     record { low = search rules; high = search rules; none = λ k l h. inv.2 k h l; here = search rules }
 
 pub loop-i-preserved : goal.loop-i-preserved
@@ -17,5 +14,5 @@ loop-i-preserved c = (search rules, search rules, below_more _ _ c.loop-i.invari
 
 pub returns : goal.returns
 returns c =
-    let inv = c.loop-i.invariant inv = c.before.loop.invariant in
+    let inv = c.loop-i.invariant in
     record { low = search rules; high = search rules; none = λ k l h. inv.2 k h l; here = search rules }

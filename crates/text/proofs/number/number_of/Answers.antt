@@ -1,11 +1,8 @@
 -- `text::number::number_of` meets its contract. The loop's invariant: the bytes passed are digits, n is their number, and the
 -- rest decides (`Passed`). The measure is the bytes left.
 -- Assumes nothing.
-use Prim.Native.Nat.{◌-◌}
 use native.Mathlib.Omega.{arith}
-use borrow.Author.Rules.{rules}
-use lib.ListN.{length}
-use Rattle.text.proofs.Numbers.{too_short, too_long, Passed, passed_none, fits, passed-more, passed-bad, taken-all, taken_none}
+use Rattle.text.proofs.Numbers.{too_short, too_long, fits, passed-more, passed-bad, taken-all, taken_none}
 use Rattle.text.proofs.number.number_of.Goals as goal
 
 pub returns-then-f-eq0 : goal.returns-then-f-eq0

@@ -2,10 +2,8 @@
 -- rest decides (`Passed`). The measure is the bytes left.
 -- Assumes nothing.
 use Prim.Native.Nat.{◌-◌}
-use native.Mathlib.Omega.{arith}
-use borrow.Author.Rules.{rules}
 use lib.ListN.{length}
-use Rattle.text.proofs.Numbers.{too_short, too_long, Passed, passed_none, fits, passed-more, passed-bad, taken-all, taken_none}
+use Rattle.text.proofs.Numbers.{Passed}
 use Rattle.text.proofs.number.number_of.Given as goal
 
 abbrev pub invariant-loop-i : goal.invariant-loop-i

@@ -1,6 +1,5 @@
 -- `text::write::put` meets its contract: one byte more stands there.
 -- Assumes nothing.
-use borrow.Author.Rules.{rules}
 use Rattle.text.proofs.Writing.{wrote_one}
 use Rattle.text.proofs.write.put.Goals as goal
 

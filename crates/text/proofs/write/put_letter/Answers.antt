@@ -1,6 +1,5 @@
 -- `text::write::put_letter` meets its contract: the letter, and the tab behind it.
 -- Assumes nothing.
-use borrow.Author.Rules.{rules}
 use Rattle.text.proofs.Writing.{wrote_more}
 use Rattle.text.proofs.write.put_letter.Goals as goal
 

@@ -1,6 +1,5 @@
 -- `text::write::put_pair` meets its contract: the pieces, one behind the other, are the line.
 -- Assumes nothing.
-use borrow.Author.Rules.{rules}
 use Rattle.text.proofs.Writing.{wrote_more}
 use Rattle.text.proofs.write.put_pair.Goals as goal
 

@@ -1,7 +1,6 @@
 -- `text::write::put_three` meets its contract: a number is its tenth and its last digit.
 -- Assumes nothing.
 use native.Mathlib.Omega.{arith}
-use borrow.Author.Rules.{rules}
 use Rattle.text.proofs.Writing.{wrote_tenth}
 use Rattle.text.proofs.write.put_three.Goals as goal
 

@@ -1,7 +1,6 @@
 -- `text::write::put_two` meets its contract: a number is its tenth and its last digit.
 -- Assumes nothing.
 use native.Mathlib.Omega.{arith}
-use borrow.Author.Rules.{rules}
 use Rattle.text.proofs.Writing.{wrote_digit, wrote_tenth}
 use Rattle.text.proofs.write.put_two.Goals as goal
 

@@ -1,0 +1,14 @@
+use Rattle.parts.specs.Format.{width}
+use Rattle.parts.proofs.format.width_of.Goals as goal
+
+pub returns-in-Ef9366 : goal.returns-in-Ef9366
+unfolding width
+returns-in-Ef9366 c = simp c.in-Ef9366.is
+
+pub returns-in-FmatHigh : goal.returns-in-FmatHigh
+unfolding width
+returns-in-FmatHigh c = simp c.in-FmatHigh.is
+
+pub returns-in-FmatLow : goal.returns-in-FmatLow
+unfolding width
+returns-in-FmatLow c = simp c.in-FmatLow.is
