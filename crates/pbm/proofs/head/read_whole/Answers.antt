@@ -1,0 +1,23 @@
+-- `pbm::head::read_whole` meets its contract. The loop's invariant: n is the number of the digits passed, and the rest decides
+-- (`Reading`). The measure is the bytes left.
+-- Assumes nothing.
+use Prim.Native.Nat.{◌-◌}
+use borrow.Author.Rules.{rules}
+use lib.ListN.{length}
+use Rattle.pbm.proofs.Wholes.{Reading, reading_none, reading-more, reading-stop, reading-end}
+use Rattle.pbm.proofs.head.read_whole.Goals as goal
+
+pub loop-i-init : goal.loop-i-init
+loop-i-init c = reading_none c.requires
+
+pub returns-then-d-ge10 : goal.returns-then-d-ge10
+returns-then-d-ge10 c =
+    reading-stop c.loop-i.invariant c.loop-i-test.true c.digit_value-d.ensures c.if-d-ge10.true
+
+pub loop-i-preserved : goal.loop-i-preserved
+loop-i-preserved c =
+    reading-more c.loop-i.invariant c.loop-i-test.true c.digit_value-d.ensures c.if-d-ge10.false
+    c.grown-n.ensures
+
+pub returns : goal.returns
+returns c = reading-end c.loop-i.invariant c.loop-i-test.false

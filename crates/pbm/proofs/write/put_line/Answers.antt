@@ -1,0 +1,28 @@
+-- `pbm::write::put_line` meets its contract. The loop's invariant: the signs of the first k bytes are written.
+-- The measure is the bytes left.
+-- Assumes nothing.
+use mathlib.Core.Path.{◌≡◌}
+use Prim.Native.Nat.{◌+◌, ◌*◌, ◌-◌, ◌≤◌}
+use native.Mathlib.Omega.{arith}
+use borrow.Author.Rules.{rules}
+use Rattle.text.specs.Wrote.{Wrote}
+use Rattle.text.proofs.Laws.{wrote_none, wrote_more}
+use Rattle.pbm.specs.File.{signs}
+use Rattle.pbm.specs.Working.Bytes.{eight_signs}
+use Rattle.pbm.proofs.Files.{signs_byte}
+use Rattle.pbm.proofs.write.put_line.Goals as goal
+
+pub loop-k-init : goal.loop-k-init
+unfolding signs
+loop-k-init c = (omega arith, wrote_none, omega arith)
+
+pub loop-k-preserved : goal.loop-k-preserved
+unfolding eight_signs
+loop-k-preserved c =
+    let text = signs_byte c.args.pic.now c.args.i c.loop-k.k in
+    (omega arith, rw text (wrote_more c.loop-k.invariant.1 c.put_eight-r.ensures), omega arith)
+
+pub returns : goal.returns
+returns c =
+    let all : c.loop-k.k ≡ 8 = omega arith in
+    wrote_more (rw all (goal.at.returns c).At-loop-k c.loop-k.invariant.1) c.put.ensures
