@@ -23,7 +23,7 @@ use Rattle.drawing.specs.declared.inside.Strides.{Strides}
 use Rattle.drawing.specs.declared.inside.Trace.{Trace}
 use Rattle.drawing.specs.Run.{mark}
 use Rattle.drawing.specs.Working.Cycle.{vector_dot}
-use Rattle.drawing.specs.Working.Inside.{Along, Within, stride, onward, Strode, Shown, OnTrace}
+use Rattle.drawing.specs.Working.Inside.{Within, stride, onward, Strode, Shown, OnTrace}
 
 -- one place on or back, both inside a window that ends short of 4,096, is one more or one less
 axis_step : (back : Bool) (p q size h : ℕ) → p < size → q < size → size < 4096 → h ≤ 1 → q ≡ ahead p (signed back h)

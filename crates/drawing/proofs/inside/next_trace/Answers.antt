@@ -1,0 +1,36 @@
+-- `drawing::inside::next_trace` meets its contract: at the last dot the trace stays, and before it goes on to the next.
+-- Assumes nothing.
+use mathlib.Core.Path.{refl, ap}
+use native.Mathlib.Omega.{arith}
+use lib.Dec.{eqb}
+use Rattle.motion.proofs.Laws.{error_lt}
+use Rattle.drawing.specs.Working.Inside.{onward}
+use Rattle.drawing.proofs.Traces.{trace_next, trace_last, either_most}
+use Rattle.drawing.proofs.inside.next_trace.Goals as goal
+
+pub returns-then-l-s : goal.returns-then-l-s
+returns-then-l-s c =
+    let a = c.args in
+    (refl, λ w h x y go sh on. trace_last a.l w h x y a.s c.if-l-s.true on)
+
+pub hopped-h-requires : goal.hopped-h-requires
+hopped-h-requires c =
+    let a = c.args in
+    omega (arith, error_lt a.l.long a.l.short a.s.i (omega arith))
+
+pub overflow_add-result-2 : goal.overflow_add-result-2
+overflow_add-result-2 c =
+    omega (
+      arith,
+      c.hop_stride-n.ensures,
+      c.requires.dot_bound.0,
+      either_most (eqb c.hopped-h.result.step 0) c.args.by.straight c.args.by.diagonal c.requires.dot_bound.1 c.requires.dot_bound.2,
+    )
+
+pub returns : goal.returns
+returns c = (
+  refl,
+  λ w k x y go sh on.
+      trace_next c.args.l w k x y c.requires.lengths.0 c.args.by c.args.s go sh c.if-l-s.false c.requires.lengths.2
+      c.hopped-h.ensures.0 c.hopped-h.ensures.1 (ap (onward c.args.s.dot) c.hop_stride-n.ensures) on,
+)
