@@ -1,7 +1,6 @@
 -- `pbm::head::grown` meets its contract: the number, or 65536 where it is larger.
 -- Assumes nothing.
 use native.Mathlib.Omega.{arith}
-use borrow.Author.Rules.{rules}
 use Rattle.pbm.proofs.head.grown.Goals as goal
 
 pub returns-then-m-lt-LARGE : goal.returns-then-m-lt-LARGE

@@ -2,7 +2,6 @@
 -- Assumes nothing.
 use mathlib.Core.Path.{sym}
 use mathlib.Core.Bool.{and_assoc}
-use borrow.Author.Rules.{rules}
 use Rattle.pbm.specs.Contents.{marked}
 use Rattle.pbm.proofs.Headings.{short_unmarked}
 use Rattle.pbm.proofs.head.is_marked.Goals as goal

@@ -1,35 +1,34 @@
 -- `pbm::head::read_head` meets its contract: the places that it reads from are those of the two numbers and of the dots.
 -- Assumes nothing.
-use mathlib.Core.Path.{refl, sym, ◌∙◌}
+use mathlib.Core.Path.{refl, sym, ap, ◌∙◌}
+use mathlib.Core.Bool.{not}
 use native.Mathlib.Omega.{arith}
-use borrow.Author.Rules.{rules}
-use borrow.Author.Tests.{not-true, not-false}
 use Rattle.pbm.proofs.Headings.{marked_long, head_unmarked, parts, head-unopened, head-other, head-good}
 use Rattle.pbm.proofs.head.read_head.Goals as goal
 
 pub returns-then-not-is_marked : goal.returns-then-not-is_marked
-returns-then-not-is_marked c = head_unmarked (sym c.is_marked.ensures ∙ not-true _ c.if-not-is_marked.true) c.refused.ensures
+returns-then-not-is_marked c = head_unmarked (sym c.is_marked.ensures ∙ c.if-not-is_marked.true) c.refused.ensures
 
 pub pass-a-requires : goal.pass-a-requires
-pass-a-requires c = marked_long _ (sym c.is_marked.ensures ∙ not-false _ c.if-not-is_marked.false)
+pass-a-requires c = marked_long _ (sym c.is_marked.ensures ∙ c.if-not-is_marked.false)
 
 pub returns-then-first-a : goal.returns-then-first-a
 returns-then-first-a c =
     head-unopened
-    (parts c.is_marked.ensures c.if-not-is_marked.false c.pass-a.ensures c.read_whole-first.ensures
+    (parts c.is_marked.ensures (ap not c.if-not-is_marked.false) c.pass-a.ensures c.read_whole-first.ensures
     c.pass-b.ensures c.read_whole-second.ensures)
     c.if-first-a.true c.refused-then-first-a.ensures
 
 pub returns-then-first-width : goal.returns-then-first-width
 returns-then-first-width c =
     head-other
-    (parts c.is_marked.ensures c.if-not-is_marked.false c.pass-a.ensures c.read_whole-first.ensures
+    (parts c.is_marked.ensures (ap not c.if-not-is_marked.false) c.pass-a.ensures c.read_whole-first.ensures
     c.pass-b.ensures c.read_whole-second.ensures)
     c.if-first-a.false (omega arith) (omega arith) c.if-first-width.true c.refused-then-first-width.ensures
 
 pub returns : goal.returns
 returns c =
     head-good
-    (parts c.is_marked.ensures c.if-not-is_marked.false c.pass-a.ensures c.read_whole-first.ensures
+    (parts c.is_marked.ensures (ap not c.if-not-is_marked.false) c.pass-a.ensures c.read_whole-first.ensures
     c.pass-b.ensures c.read_whole-second.ensures)
     c.if-first-a.false (omega arith) (omega arith) c.if-first-width.false refl refl

@@ -1,10 +1,7 @@
 -- `pbm::head::read_whole` meets its contract. The loop's invariant: n is the number of the digits passed, and the rest decides
 -- (`Reading`). The measure is the bytes left.
 -- Assumes nothing.
-use Prim.Native.Nat.{◌-◌}
-use borrow.Author.Rules.{rules}
-use lib.ListN.{length}
-use Rattle.pbm.proofs.Wholes.{Reading, reading_none, reading-more, reading-stop, reading-end}
+use Rattle.pbm.proofs.Wholes.{reading_none, reading-more, reading-stop, reading-end}
 use Rattle.pbm.proofs.head.read_whole.Goals as goal
 
 pub loop-i-init : goal.loop-i-init

@@ -2,9 +2,8 @@
 -- (`Reading`). The measure is the bytes left.
 -- Assumes nothing.
 use Prim.Native.Nat.{◌-◌}
-use borrow.Author.Rules.{rules}
 use lib.ListN.{length}
-use Rattle.pbm.proofs.Wholes.{Reading, reading_none, reading-more, reading-stop, reading-end}
+use Rattle.pbm.proofs.Wholes.{Reading}
 use Rattle.pbm.proofs.head.read_whole.Given as goal
 
 abbrev pub invariant-loop-i : goal.invariant-loop-i

@@ -2,10 +2,9 @@
 -- left.
 -- Assumes nothing.
 use mathlib.Core.Path.{sym}
-use Prim.Native.Nat.{◌-◌}
 use borrow.Author.Rules.{rules}
 use borrow.Author.Tests.{not-true, not-false}
-use Rattle.pbm.proofs.Showing.{Looked, looked_none, looked_bad, looked_more, looked_all}
+use Rattle.pbm.proofs.Showing.{looked_none, looked_bad, looked_more, looked_all}
 use Rattle.pbm.proofs.read.are_dots.Goals as goal
 
 pub loop-done-init : goal.loop-done-init

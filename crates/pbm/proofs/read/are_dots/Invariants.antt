@@ -1,11 +1,8 @@
 -- `pbm::read::are_dots` meets its contract. The loop's invariant: the signs of the bytes done are dots. The measure is the bytes
 -- left.
 -- Assumes nothing.
-use mathlib.Core.Path.{sym}
 use Prim.Native.Nat.{◌-◌}
-use borrow.Author.Rules.{rules}
-use borrow.Author.Tests.{not-true, not-false}
-use Rattle.pbm.proofs.Showing.{Looked, looked_none, looked_bad, looked_more, looked_all}
+use Rattle.pbm.proofs.Showing.{Looked}
 use Rattle.pbm.proofs.read.are_dots.Given as goal
 
 abbrev pub invariant-loop-done : goal.invariant-loop-done

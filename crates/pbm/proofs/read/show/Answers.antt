@@ -1,8 +1,7 @@
 -- `pbm::read::show` meets its contract. The loop's invariant: all lines but the y lowest are shown. The measure is these.
 -- Assumes nothing.
 use native.Mathlib.Omega.{arith}
-use borrow.Author.Rules.{rules}
-use Rattle.pbm.proofs.Showing.{Showing, showing_none, showing_dots, showing_fits, showing_more, showing_all}
+use Rattle.pbm.proofs.Showing.{showing_none, showing_dots, showing_fits, showing_more, showing_all}
 use Rattle.pbm.proofs.read.show.Goals as goal
 
 pub loop-y-init : goal.loop-y-init
@@ -15,7 +14,10 @@ overflow_mul-y c =
 pub show_line-i-requires : goal.show_line-i-requires
 show_line-i-requires c =
     let inv = c.loop-y.invariant in
-    ((inv.high, showing_fits inv c.loop-y-test.true), showing_dots inv c.loop-y-test.true)
+    record {
+      from_in_bounds = (inv.high, showing_fits inv c.loop-y-test.true);
+      file_value = showing_dots inv c.loop-y-test.true;
+    }
 
 pub loop-y-preserved : goal.loop-y-preserved
 loop-y-preserved c =

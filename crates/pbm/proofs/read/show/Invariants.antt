@@ -1,8 +1,6 @@
 -- `pbm::read::show` meets its contract. The loop's invariant: all lines but the y lowest are shown. The measure is these.
 -- Assumes nothing.
-use native.Mathlib.Omega.{arith}
-use borrow.Author.Rules.{rules}
-use Rattle.pbm.proofs.Showing.{Showing, showing_none, showing_dots, showing_fits, showing_more, showing_all}
+use Rattle.pbm.proofs.Showing.{Showing}
 use Rattle.pbm.proofs.read.show.Given as goal
 
 abbrev pub invariant-loop-y : goal.invariant-loop-y

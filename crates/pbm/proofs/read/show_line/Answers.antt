@@ -1,8 +1,7 @@
 -- `pbm::read::show_line` meets its contract. The loop's invariant: k bytes are written. The measure is the bytes left.
 -- Assumes nothing.
-use Prim.Native.Nat.{◌-◌}
 use borrow.Author.Rules.{rules}
-use Rattle.pbm.proofs.Showing.{Lined, lined_none, lined_good, lined_more, lined_all}
+use Rattle.pbm.proofs.Showing.{lined_none, lined_good, lined_more, lined_all}
 use Rattle.pbm.proofs.read.show_line.Goals as goal
 
 pub loop-k-init : goal.loop-k-init
@@ -15,4 +14,6 @@ loop-k-preserved c =
     lined_more c.loop-k.invariant c.loop-k-test.true good e c.put.ensures
 
 pub returns : goal.returns
-returns c = lined_all c.loop-k.invariant c.loop-k-test.false
+returns c =
+    let all = lined_all c.loop-k.invariant c.loop-k-test.false in
+    record { wrote = all.0; stands = all.1 }

@@ -1,8 +1,7 @@
 -- `pbm::read::show_line` meets its contract. The loop's invariant: k bytes are written. The measure is the bytes left.
 -- Assumes nothing.
 use Prim.Native.Nat.{◌-◌}
-use borrow.Author.Rules.{rules}
-use Rattle.pbm.proofs.Showing.{Lined, lined_none, lined_good, lined_more, lined_all}
+use Rattle.pbm.proofs.Showing.{Lined}
 use Rattle.pbm.proofs.read.show_line.Given as goal
 
 abbrev pub invariant-loop-k : goal.invariant-loop-k

@@ -3,7 +3,6 @@
 -- the order in which the tests are joined
 use mathlib.Core.Path.{◌≡◌, ◌∙◌}
 use mathlib.Core.Bool.{Bool, true, ◌&&◌, and_assoc, and-true}
-use borrow.Author.Rules.{rules}
 use Rattle.pbm.specs.Contents.{are_dots}
 use Rattle.pbm.proofs.Taking.{eight}
 use Rattle.pbm.proofs.signs.are_eight.Goals as goal

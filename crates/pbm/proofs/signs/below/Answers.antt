@@ -1,7 +1,6 @@
 -- `pbm::signs::below` meets its contract: by a dot's bit.
 -- Assumes nothing.
 use native.Mathlib.Omega.{arith}
-use borrow.Author.Rules.{rules}
 use Rattle.pbm.proofs.Eights.{dot_digit}
 use Rattle.pbm.proofs.signs.below.Goals as goal
 

@@ -2,7 +2,6 @@
 -- Assumes nothing.
 use native.Mathlib.Nat.{add-zero}
 use native.Mathlib.Omega.{arith}
-use borrow.Author.Rules.{rules}
 use Rattle.pbm.specs.Contents.{weighed}
 use Rattle.pbm.proofs.Taking.{eight, dot_at}
 use Rattle.pbm.proofs.signs.byte_of.Goals as goal

@@ -2,7 +2,6 @@
 -- Assumes nothing.
 use mathlib.Core.Path.{refl, sym, ◌∙◌}
 use native.Mathlib.Omega.{arith}
-use borrow.Author.Rules.{rules}
 use Rattle.pbm.proofs.Eights.{side_by_side, passes_eight}
 use Rattle.pbm.proofs.signs.pass_eight.Goals as goal
 

@@ -1,12 +1,8 @@
 -- `pbm::signs::search` meets its contract. The loop's invariant: k of the signs are found, all dots. The measure is the signs
 -- left.
 -- Assumes nothing.
-use mathlib.Core.Path.{sym, ◌∙◌}
 use Prim.Native.Nat.{◌-◌}
-use native.Mathlib.Omega.{arith}
-use borrow.Author.Rules.{rules}
-use borrow.Author.Tests.{not-true, not-false}
-use Rattle.pbm.proofs.Eights.{Sought, sought_none, sought_light, sought_bad, sought_end, sought_more, sought_all, no_eight, dot_digit, dot_weight}
+use Rattle.pbm.proofs.Eights.{Sought}
 use Rattle.pbm.proofs.signs.search.Given as goal
 
 abbrev pub invariant-loop-k : goal.invariant-loop-k

@@ -2,7 +2,6 @@
 -- Assumes nothing.
 use mathlib.Core.Path.{sym, ◌∙◌}
 use native.Mathlib.Omega.{arith}
-use borrow.Author.Rules.{rules}
 use Rattle.pbm.proofs.Eights.{side_by_side}
 use Rattle.pbm.proofs.signs.take_eight.Goals as goal
 

@@ -1,13 +1,9 @@
 -- `pbm::white::pass` meets its contract. The loop's invariant: what is left behind the white space is the same from the start on
 -- and from i on, in a comment or not (`Passing`). The measure is the bytes left.
 -- Assumes nothing.
-use mathlib.Core.Path.{refl, sym, ◌∙◌}
-use mathlib.Core.Logic.{⊎_elim}
 use Prim.Native.Nat.{◌-◌}
-use borrow.Author.Rules.{rules}
-use borrow.Author.Tests.{not-true, not-false}
 use lib.ListN.{length}
-use Rattle.pbm.proofs.Passing.{Passing, passing_next, passing_sign, passing_end, passed_comment, passed_hash, passed_white}
+use Rattle.pbm.proofs.Passing.{Passing}
 use Rattle.pbm.proofs.white.pass.Given as goal
 
 abbrev pub invariant-loop-i : goal.invariant-loop-i

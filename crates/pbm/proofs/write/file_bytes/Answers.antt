@@ -1,6 +1,5 @@
 -- `pbm::write::file_bytes` meets its contract: the law of the file's length at each format.
 -- Assumes nothing.
-use borrow.Author.Rules.{rules}
 use Rattle.parts.specs.Format.{width, height}
 use Rattle.pbm.proofs.Files.{file_length}
 use Rattle.pbm.proofs.write.file_bytes.Goals as goal

@@ -2,12 +2,8 @@
 -- written the whole picture, and there is room for them. The measure is the lines left.
 -- Assumes nothing.
 use mathlib.Core.Path.{◌≡◌, refl}
-use mathlib.Core.List.{List}
-use Prim.Native.Nat.{ℕ, ◌+◌, ◌*◌, ◌-◌, ◌≤◌}
+use Prim.Native.Nat.{◌*◌, ◌-◌}
 use native.Mathlib.Omega.{arith}
-use borrow.Author.Rules.{rules}
-use lib.ListN.{length}
-use Rattle.text.specs.Wrote.{Wrote}
 use Rattle.text.proofs.Laws.{wrote_none, wrote_more}
 use Rattle.pbm.specs.File.{body}
 use Rattle.pbm.proofs.Files.{line_more, line_below, body_line, lines_length}
@@ -51,4 +47,4 @@ pub returns : goal.returns
 unfolding body
 returns c =
     let none : c.loop-y.y ≡ 0 = omega arith in
-    (rw none (goal.at.returns c).At-loop-y c.loop-y.invariant.3) _ _ wrote_none
+    (rw none at c.loop-y.invariant.3) _ _ wrote_none

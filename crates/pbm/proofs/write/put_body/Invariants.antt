@@ -1,16 +1,12 @@
 -- `pbm::write::put_body` meets its contract. The loop's invariant: whoever writes the y lowest lines behind what is written has
 -- written the whole picture, and there is room for them. The measure is the lines left.
 -- Assumes nothing.
-use mathlib.Core.Path.{◌≡◌, refl}
+use mathlib.Core.Path.{◌≡◌}
 use mathlib.Core.List.{List}
-use Prim.Native.Nat.{ℕ, ◌+◌, ◌*◌, ◌-◌, ◌≤◌}
-use native.Mathlib.Omega.{arith}
-use borrow.Author.Rules.{rules}
+use Prim.Native.Nat.{ℕ, ◌+◌, ◌*◌, ◌≤◌}
 use lib.ListN.{length}
 use Rattle.text.specs.Wrote.{Wrote}
-use Rattle.text.proofs.Laws.{wrote_none, wrote_more}
 use Rattle.pbm.specs.File.{body}
-use Rattle.pbm.proofs.Files.{line_more, line_below, body_line, lines_length}
 use Rattle.pbm.proofs.write.put_body.Given as goal
 
 abbrev pub invariant-loop-y : goal.invariant-loop-y

@@ -1,6 +1,5 @@
 -- `pbm::write::put_eight` meets its contract: the signs, one behind the other, are the byte's.
 -- Assumes nothing.
-use borrow.Author.Rules.{rules}
 use Rattle.text.proofs.Laws.{wrote_more}
 use Rattle.pbm.specs.Working.Bytes.{eight_signs}
 use Rattle.pbm.proofs.write.put_eight.Goals as goal

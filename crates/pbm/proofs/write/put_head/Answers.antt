@@ -1,6 +1,5 @@
 -- `pbm::write::put_head` meets its contract: the pieces, one behind the other, are the head.
 -- Assumes nothing.
-use borrow.Author.Rules.{rules}
 use Rattle.text.proofs.Laws.{wrote_more}
 use Rattle.pbm.specs.File.{head}
 use Rattle.pbm.proofs.write.put_head.Goals as goal

@@ -2,10 +2,7 @@
 -- The measure is the bytes left.
 -- Assumes nothing.
 use mathlib.Core.Path.{◌≡◌}
-use Prim.Native.Nat.{◌+◌, ◌*◌, ◌-◌, ◌≤◌}
 use native.Mathlib.Omega.{arith}
-use borrow.Author.Rules.{rules}
-use Rattle.text.specs.Wrote.{Wrote}
 use Rattle.text.proofs.Laws.{wrote_none, wrote_more}
 use Rattle.pbm.specs.File.{signs}
 use Rattle.pbm.specs.Working.Bytes.{eight_signs}
@@ -25,4 +22,4 @@ loop-k-preserved c =
 pub returns : goal.returns
 returns c =
     let all : c.loop-k.k ≡ 8 = omega arith in
-    wrote_more (rw all (goal.at.returns c).At-loop-k c.loop-k.invariant.1) c.put.ensures
+    wrote_more (rw all at c.loop-k.invariant.1) c.put.ensures

@@ -3,13 +3,8 @@
 -- Assumes nothing.
 use mathlib.Core.Path.{◌≡◌}
 use Prim.Native.Nat.{◌+◌, ◌*◌, ◌-◌, ◌≤◌}
-use native.Mathlib.Omega.{arith}
-use borrow.Author.Rules.{rules}
 use Rattle.text.specs.Wrote.{Wrote}
-use Rattle.text.proofs.Laws.{wrote_none, wrote_more}
 use Rattle.pbm.specs.File.{signs}
-use Rattle.pbm.specs.Working.Bytes.{eight_signs}
-use Rattle.pbm.proofs.Files.{signs_byte}
 use Rattle.pbm.proofs.write.put_line.Given as goal
 
 abbrev pub invariant-loop-k : goal.invariant-loop-k

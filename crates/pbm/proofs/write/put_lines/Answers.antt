@@ -2,10 +2,8 @@
 -- The measure is the lines left.
 -- Assumes nothing.
 use mathlib.Core.Path.{◌≡◌}
-use Prim.Native.Nat.{◌+◌, ◌*◌, ◌-◌, ◌≤◌}
+use Prim.Native.Nat.{◌+◌, ◌*◌}
 use native.Mathlib.Omega.{arith}
-use borrow.Author.Rules.{rules}
-use Rattle.text.specs.Wrote.{Wrote}
 use Rattle.text.proofs.Laws.{wrote_none, wrote_more}
 use Rattle.pbm.specs.File.{file_lines}
 use Rattle.pbm.proofs.Files.{lines_line, line_length}
@@ -25,4 +23,4 @@ loop-k-preserved c =
 pub returns : goal.returns
 returns c =
     let all : c.loop-k.k ≡ c.args.n = omega arith in
-    rw all (goal.at.returns c).At-loop-k c.loop-k.invariant.1
+    rw all at c.loop-k.invariant.1

@@ -1,6 +1,5 @@
 -- `pbm::write::put_sign` meets its contract: by what `bit_at` answers.
 -- Assumes nothing.
-use borrow.Author.Rules.{rules}
 use Rattle.pbm.specs.File.{sign}
 use Rattle.pbm.proofs.write.put_sign.Goals as goal
 

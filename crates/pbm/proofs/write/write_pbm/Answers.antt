@@ -2,7 +2,6 @@
 -- Assumes nothing.
 use Prim.Native.Nat.{◌≤◌}
 use native.Mathlib.Omega.{arith}
-use borrow.Author.Rules.{rules}
 use lib.ListN.{length}
 use Rattle.pbm.specs.Calls.{file_of}
 use Rattle.pbm.proofs.Written.{leaves_misfit, leaves-short, leaves-file, head_room, body-room, file-wrote}
@@ -28,7 +27,7 @@ pub put_body-requires : goal.put_body-requires
 put_body-requires c =
     let args = c.args in
     body-room args.format args.pic.now args.out.now (omega (arith, c.file_bytes-n.ensures args.pic.now))
-    c.width_of_lem.ensures c.height_of-height.ensures c.put_head-a.ensures (omega arith)
+    c.width_of-width.ensures c.height_of-height.ensures c.put_head-a.ensures (omega arith)
 
 pub returns : goal.returns
 returns c =
@@ -37,5 +36,5 @@ returns c =
     let room : length (file_of args.format args.pic.now) ≤ length args.out.now = omega arith in
     leaves-file args.format args.pic.now args.out.now (omega arith) room
     (file-wrote args.format args.pic.now args.out.now room
-    c.width_of_lem.ensures c.height_of-height.ensures c.put_head-a.ensures c.put_body.ensures)
+    c.width_of-width.ensures c.height_of-height.ensures c.put_head-a.ensures c.put_body.ensures)
     (rw (← size) c.accepted.ensures)
