@@ -183,9 +183,9 @@ unfolding played draws_none next outcome_of
 way_still c [] h n = refl
 way_still c (W a v ∷ es) h n =
     let b = and_parts (not (eqb a 0x0 && clearing v)) (draws_none es) h in
-    way_still _ es b.1 (write_unclear c.state a v (not-true _ b.0) n).clear
-way_still c (R a ∷ es) h n = way_still _ es h (aside_kept n (read_aside c.state a)).clear
+    way_still (next c (W a v)) es b.1 (write_unclear c.state a v (not-true _ b.0) n).clear
+way_still c (R a ∷ es) h n = way_still (next c (R a)) es h (aside_kept n (read_aside c.state a)).clear
 way_still c (T k ∷ es) h n = absurd (false≢true h)
 way_still c (VB l ∷ es) h n =
-    way_still _ es h (aside_kept n (vb_aside c.state n l c.memory)).clear ∙ vb_memory c.state n l c.memory
-way_still c (LP x y ∷ es) h n = way_still _ es h (aside_kept n (edge_aside c.state x y)).clear
+    way_still (next c (VB l)) es h (aside_kept n (vb_aside c.state n l c.memory)).clear ∙ vb_memory c.state n l c.memory
+way_still c (LP x y ∷ es) h n = way_still (next c (LP x y)) es h (aside_kept n (edge_aside c.state x y)).clear

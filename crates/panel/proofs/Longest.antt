@@ -1,6 +1,6 @@
 -- No output is longer than a buffer of the longest: at most 11 bytes for each line of the log, and 10 for each dot.
 -- Assumes nothing.
-use mathlib.Core.Bool.{Bool, cond, ◌&&◌}
+use mathlib.Core.Bool.{◌&&◌}
 use mathlib.Core.List.{List, [], ◌∷◌}
 use Prim.Native.Nat.{ℕ, zero, suc, ◌+◌, ◌*◌, ◌/◌, ◌%◌, ◌≤◌, ◌<◌}
 use native.Mathlib.Omega.{arith}
@@ -15,7 +15,7 @@ use Rattle.rules.specs.Calls.{read_out, granted}
 use Rattle.rules.specs.Card.{Card, outcome_of}
 use Rattle.panel.specs.declared.parse.Record.{Record}
 use Rattle.panel.specs.declared.parse.Record.TheVariants.{Write, Read, Cycles, Blanking, Edge, Malformed}
-use Rattle.panel.specs.Answer.{line_g, line_r, line_t, line_e, line_p, answered}
+use Rattle.panel.specs.Answer.{line_p, answered}
 use Rattle.panel.specs.Record.{record_by, record_of}
 use Rattle.panel.specs.Panel.{card, card_after, answer_to, answers, shown, dot_lines, panel, longest}
 use Rattle.panel.proofs.LineLengths.{line_g_length, line_r_length, line_t_length, line_e_length, line_p_length}

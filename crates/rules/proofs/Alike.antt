@@ -12,7 +12,7 @@ use Rattle.rules.specs.Registers.{light_pen_read, after_read}
 use Rattle.rules.specs.Figure.{Tables}
 use Rattle.rules.specs.Blanking.{light_pen_ends, after_edge}
 use Rattle.rules.specs.Refusals.{write_number, read_number, grant_number, edge_number}
-use Rattle.rules.specs.Calls.{Memory, memory, answer, outcome, written, read_out, granted, struck}
+use Rattle.rules.specs.Calls.{Memory, answer, outcome, written, read_out, granted, struck}
 use Rattle.rules.specs.Card.{Card, W, outcome_of, next}
 use Rattle.rules.proofs.Good.{write_accepted}
 use Rattle.rules.proofs.Split.{Still}

@@ -12,7 +12,7 @@ use Rattle.picture.specs.Bit.{digit, bit_at}
 use Rattle.picture.specs.Dot.{whole}
 use Rattle.parts.specs.Format.{bytes, frames}
 use Rattle.parts.specs.Refusal.{lowest}
-use Rattle.rules.specs.Sequence.{Frames, Idle, Clear, ready, work_rises, clear_lights}
+use Rattle.rules.specs.Sequence.{Frames, Idle, Clear, work_rises, clear_lights}
 use Rattle.rules.specs.State.{State, with_work, vb_raises, ready_raises}
 use Rattle.rules.specs.Cycles.{lights}
 use Rattle.rules.specs.Blanking.{fallen, ends_clear, clear_ends, risen, after_vb, picture_vb}

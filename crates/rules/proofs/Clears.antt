@@ -21,7 +21,7 @@ use Rattle.rules.specs.State.{State}
 use Rattle.rules.specs.Commands.{clearing, prompt, begun, after_write}
 use Rattle.rules.specs.Blanking.{ends_clear}
 use Rattle.rules.specs.Refusals.{bad, write_number}
-use Rattle.rules.specs.Calls.{Memory, memory, answer, written}
+use Rattle.rules.specs.Calls.{Memory, answer, written}
 use Rattle.rules.specs.Card.{Card, Event, W, R, T, VB, LP, outcome_of, next, played}
 use Rattle.rules.specs.Frames.{levels_in, rises_in, frames_after, rises_of, unwritten, Come}
 use Rattle.rules.proofs.Good.{begun_good}

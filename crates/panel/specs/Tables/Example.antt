@@ -1,6 +1,6 @@
 -- The example of document 01: W 1 3, W 5 5, W 7 2, W 0 11, T 9, R 0. 9 is the tab, 10 the line feed.
 -- Assumes nothing.
-use Rattle.std.specs.Prelude.{ℕ, ◌+◌, List, [], ◌∷◌, ◌++◌, replicate, take}
+use Rattle.std.specs.Prelude.{ℕ, List, [], ◌∷◌, ◌++◌, replicate, take}
 use Rattle.basis.specs.Reading.{Reading}
 use Rattle.panel.specs.Panel.{dot_lines, panel}
 

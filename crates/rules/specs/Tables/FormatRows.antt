@@ -1,8 +1,8 @@
 -- What the format has no part in: registers, commands, VB, edges and refusals are the same in all three, row by row, but for the
 -- first frame of a clear with FMAT high.
 -- Assumes nothing.
-use Rattle.std.specs.Prelude.{ℕ, ◌+◌, ◌*◌, cond, List, [], ◌∷◌, ◌++◌, eqb, get_or, replicate}
-use Rattle.basis.specs.Reading.{Reading, each, joined}
+use Rattle.std.specs.Prelude.{ℕ, ◌+◌, ◌*◌, cond, List, [], ◌∷◌, ◌++◌, eqb}
+use Rattle.basis.specs.Reading.{Reading, joined}
 use Rattle.rules.specs.Blanking.{after_vb}
 use Rattle.rules.specs.Tables.Rows.{nth, but, high, stated, shown, writes, reads, strikes, rich}
 use Rattle.rules.specs.Tables.FrameRows.{scene}

@@ -1,6 +1,6 @@
 -- VB and LPCK on states of every kind, and STATUS of each; the whole row after it.
 -- Assumes nothing.
-use Rattle.std.specs.Prelude.{ℕ, ◌+◌, ◌*◌, ◌/◌, ◌%◌, ◌^◌, max, Bool, true, false, cond, ◌||◌, ◌&&◌, List, [], ◌∷◌, ◌++◌, eqb, get_or, replicate}
+use Rattle.std.specs.Prelude.{ℕ, ◌+◌, ◌*◌, ◌/◌, ◌%◌, ◌^◌, max, cond, List, [], ◌∷◌, ◌++◌, get_or, replicate}
 use Rattle.basis.specs.Reading.{Reading, each, joined, told}
 use Rattle.rules.specs.Sequence.{clear_lights}
 use Rattle.rules.specs.Blanking.{after_vb, picture_vb}
