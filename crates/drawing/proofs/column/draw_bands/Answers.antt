@@ -1,5 +1,4 @@
--- `drawing::column::draw_bands` meets its contract. The loop's invariant: so many rows of the glyph are painted, and where one is
--- left, its dots begin as much back from d as each row's. The measure is the rows of dots left.
+-- `drawing::column::draw_bands` meets its contract.
 -- Assumes nothing.
 use mathlib.Core.Path.{◌≡◌, refl, sym}
 use Prim.Native.Nat.{ℕ, ◌*◌, ◌/◌, ◌≤◌, ◌<◌}

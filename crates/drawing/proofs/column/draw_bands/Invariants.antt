@@ -1,5 +1,5 @@
--- `drawing::column::draw_bands` meets its contract. The loop's invariant: so many rows of the glyph are painted, and where one is
--- left, its dots begin as much back from d as each row's. The measure is the rows of dots left.
+-- `drawing::column::draw_bands`: the loop's invariant: so many rows of the glyph are painted, and where one is left, its dots begin as
+-- much back from d as each row's. The measure is the rows of dots left.
 -- Assumes nothing.
 use mathlib.Core.Path.{◌≡◌}
 use Prim.Native.Nat.{◌+◌, ◌*◌, ◌-◌, ◌/◌, ◌≤◌}

@@ -1,5 +1,4 @@
--- `drawing::column::draw_column` meets its contract. The loop's invariant: all the rows of the glyph are painted k times, and d is k
--- lines above the foot. The measure is the times left.
+-- `drawing::column::draw_column` meets its contract.
 -- Assumes nothing.
 use mathlib.Core.Path.{◌≡◌, refl, ◌∙◌}
 use Prim.Native.Nat.{◌*◌, ◌≤◌}

@@ -1,5 +1,5 @@
--- `drawing::column::draw_column` meets its contract. The loop's invariant: all the rows of the glyph are painted k times, and d is k
--- lines above the foot. The measure is the times left.
+-- `drawing::column::draw_column`: the loop's invariant: all the rows of the glyph are painted k times, and d is k lines above the foot.
+-- The measure is the times left.
 -- Assumes nothing.
 use mathlib.Core.Path.{◌≡◌}
 use Prim.Native.Nat.{◌+◌, ◌*◌, ◌-◌, ◌/◌, ◌≤◌}

@@ -1,5 +1,4 @@
--- `drawing::inside::draw_within` meets its contract. The loop's invariant: the trace is on its dot, and the cycles so far are done.
--- The measure is the cycles left.
+-- `drawing::inside::draw_within` meets its contract.
 -- Assumes nothing.
 use mathlib.Core.Path.{◌≡◌, ◌∙◌}
 use Prim.Native.Nat.{◌+◌, ◌≤◌, min}

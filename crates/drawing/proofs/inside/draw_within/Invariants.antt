@@ -1,5 +1,5 @@
--- `drawing::inside::draw_within` meets its contract. The loop's invariant: the trace is on its dot, and the cycles so far are done.
--- The measure is the cycles left.
+-- `drawing::inside::draw_within`: the loop's invariant: the trace is on its dot, and the cycles so far are done. The measure is the
+-- cycles left.
 -- Assumes nothing.
 use Prim.Native.Nat.{◌-◌, ◌≤◌}
 use Rattle.motion.specs.Position.{behind}

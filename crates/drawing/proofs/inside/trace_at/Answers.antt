@@ -1,6 +1,5 @@
 -- `drawing::inside::trace_at` meets its contract.
 -- Assumes nothing.
--- the product is small
 use mathlib.Core.Path.{refl}
 use Prim.Native.Nat.{◌*◌, ◌≤◌}
 use native.Mathlib.Nat.{mul-le-mul}
@@ -9,6 +8,7 @@ use Rattle.drawing.proofs.Traces.{trace_here}
 use Rattle.drawing.proofs.inside.trace_at.Goals as goal
 use Rattle.drawing.proofs.inside.trace_at.Goals.{Start}
 
+-- the product is small
 product : (s : Start) → s.args.at.y * s.args.width ≤ 16777216
 product s =
     let most = mul-le-mul {n₁ = s.args.at.y} {m₁ = s.args.width} {n₂ = 4096} {m₂ = 4096} (omega (arith, s.requires)) (omega (arith, s.requires)) in

@@ -1,5 +1,5 @@
--- `drawing::letters::by_columns` meets its contract, by whole columns and single cycles. The loop's invariant: the cell is some cycles further than the
--- first one, and they are done. The measure is the cycles left.
+-- `drawing::letters::by_columns`: the loop's invariant: the cell is some cycles further than the first one, and they are done. The
+-- measure is the cycles left.
 -- Assumes nothing.
 use mathlib.Core.Path.{◌≡◌}
 use Prim.Native.Nat.{◌-◌}

@@ -1,7 +1,6 @@
 -- `drawing::letters::draw_body` meets its contract: the cycles of the run from the cell of its first one, column by column or
 -- one by one.
 -- Assumes nothing.
--- from the cell of the first cycle to that of the one past the last
 use mathlib.Core.Path.{◌≡◌, ◌∙◌}
 use mathlib.Core.List.{List}
 use Prim.Native.Nat.{ℕ, ◌+◌, ◌-◌, ◌≤◌}
@@ -19,6 +18,7 @@ use Rattle.drawing.specs.Working.Column.{Further}
 use Rattle.drawing.proofs.Rests.{cells_rest}
 use Rattle.drawing.proofs.letters.draw_body.Goals as goal
 
+-- from the cell of the first cycle to that of the one past the last
 ran : (t : Tip) (lie : Lie) (b : Body) (glyph : List ℕ) (run : Run) (first last : Cell) (p q : List ℕ) → Sized b
     → run.from + run.count ≤ body_cycles b → first.i ≡ run.from → OnPlace lie b (start_of (Cells lie b) run.from run.at) first
     → last.i ≡ run.from + run.count → Further t lie b glyph first last (run.from + run.count) p q

@@ -1,5 +1,4 @@
--- `drawing::strokes::draw_across` meets its contract. The loop's invariant: the stroke is on its dot, and the cycles so far are done.
--- The measure is the cycles left.
+-- `drawing::strokes::draw_across` meets its contract.
 -- Assumes nothing.
 use mathlib.Core.Path.{◌≡◌, ◌∙◌}
 use Prim.Native.Nat.{◌+◌, ◌≤◌}

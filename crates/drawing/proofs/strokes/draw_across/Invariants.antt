@@ -1,5 +1,5 @@
--- `drawing::strokes::draw_across` meets its contract. The loop's invariant: the stroke is on its dot, and the cycles so far are done.
--- The measure is the cycles left.
+-- `drawing::strokes::draw_across`: the loop's invariant: the stroke is on its dot, and the cycles so far are done. The measure is the
+-- cycles left.
 -- Assumes nothing.
 use Prim.Native.Nat.{◌-◌, ◌≤◌}
 use Rattle.motion.specs.Position.{behind}

@@ -1,6 +1,5 @@
 -- `motion::vector::error_at` meets its contract: the definition's own sum, which fits; with M = 0 there is only dot 0.
 -- Assumes nothing.
--- the product is small
 use mathlib.Core.Path.{◌≡◌, refl}
 use Prim.Native.Nat.{◌*◌, ◌≤◌}
 use native.Mathlib.Nat.{zero-mul}
@@ -11,6 +10,7 @@ use Rattle.motion.proofs.Vectors.{product_most}
 use Rattle.motion.proofs.vector.error_at.Goals as goal
 use Rattle.motion.proofs.vector.error_at.Goals.{Start}
 
+-- the product is small
 product : (s : Start) → 2 * s.args.i * s.args.l.short ≤ 130050
 product s = product_most s.args.l s.requires.0 s.args.i s.requires.1
 

@@ -1,5 +1,4 @@
--- `panel::dots::put_byte` meets its contract. The loop's invariant: the lines of the first k dots of byte i are written.
--- The measure is the dots left.
+-- `panel::dots::put_byte` meets its contract.
 -- Assumes nothing.
 use mathlib.Core.Path.{◌≡◌}
 use native.Mathlib.Omega.{arith}

@@ -1,5 +1,4 @@
--- `panel::dots::put_dots` meets its contract. The loop's invariant: the lines of the first i bytes are written.
--- The measure is the bytes left.
+-- `panel::dots::put_dots` meets its contract.
 -- Assumes nothing.
 use mathlib.Core.Path.{◌≡◌}
 use native.Mathlib.Omega.{arith}

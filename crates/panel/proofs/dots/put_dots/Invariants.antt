@@ -1,5 +1,4 @@
--- `panel::dots::put_dots` meets its contract. The loop's invariant: the lines of the first i bytes are written.
--- The measure is the bytes left.
+-- `panel::dots::put_dots`: the loop's invariant: the lines of the first i bytes are written. The measure is the bytes left.
 -- Assumes nothing.
 use Prim.Native.Nat.{◌+◌, ◌*◌, ◌-◌, ◌≤◌}
 use Rattle.panel.specs.Panel.{dot_lines}

@@ -1,5 +1,4 @@
--- `pbm::head::read_whole` meets its contract. The loop's invariant: n is the number of the digits passed, and the rest decides
--- (`Reading`). The measure is the bytes left.
+-- `pbm::head::read_whole` meets its contract.
 -- Assumes nothing.
 use Rattle.pbm.proofs.Wholes.{reading_none, reading-more, reading-stop, reading-end}
 use Rattle.pbm.proofs.head.read_whole.Goals as goal

@@ -1,5 +1,5 @@
--- `pbm::head::read_whole` meets its contract. The loop's invariant: n is the number of the digits passed, and the rest decides
--- (`Reading`). The measure is the bytes left.
+-- `pbm::head::read_whole`: the loop's invariant: n is the number of the digits passed, and the rest decides (`Reading`). The measure is
+-- the bytes left.
 -- Assumes nothing.
 use Prim.Native.Nat.{◌-◌}
 use lib.ListN.{length}

@@ -1,5 +1,4 @@
--- `pbm::read::are_dots` meets its contract. The loop's invariant: the signs of the bytes done are dots. The measure is the bytes
--- left.
+-- `pbm::read::are_dots` meets its contract.
 -- Assumes nothing.
 use mathlib.Core.Path.{sym}
 use borrow.Author.Rules.{rules}

@@ -1,5 +1,4 @@
--- `pbm::read::are_dots` meets its contract. The loop's invariant: the signs of the bytes done are dots. The measure is the bytes
--- left.
+-- `pbm::read::are_dots`: the loop's invariant: the signs of the bytes done are dots. The measure is the bytes left.
 -- Assumes nothing.
 use Prim.Native.Nat.{◌-◌}
 use Rattle.pbm.proofs.Showing.{Looked}

@@ -1,4 +1,4 @@
--- `pbm::read::show` meets its contract. The loop's invariant: all lines but the y lowest are shown. The measure is these.
+-- `pbm::read::show` meets its contract.
 -- Assumes nothing.
 use native.Mathlib.Omega.{arith}
 use Rattle.pbm.proofs.Showing.{showing_none, showing_dots, showing_fits, showing_more, showing_all}

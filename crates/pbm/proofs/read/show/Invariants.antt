@@ -1,4 +1,4 @@
--- `pbm::read::show` meets its contract. The loop's invariant: all lines but the y lowest are shown. The measure is these.
+-- `pbm::read::show`: the loop's invariant: all lines but the y lowest are shown. The measure is these.
 -- Assumes nothing.
 use Rattle.pbm.proofs.Showing.{Showing}
 use Rattle.pbm.proofs.read.show.Given as goal

@@ -1,4 +1,4 @@
--- `pbm::read::show_line` meets its contract. The loop's invariant: k bytes are written. The measure is the bytes left.
+-- `pbm::read::show_line` meets its contract.
 -- Assumes nothing.
 use borrow.Author.Rules.{rules}
 use Rattle.pbm.proofs.Showing.{lined_none, lined_good, lined_more, lined_all}

@@ -1,4 +1,4 @@
--- `pbm::read::show_line` meets its contract. The loop's invariant: k bytes are written. The measure is the bytes left.
+-- `pbm::read::show_line`: the loop's invariant: k bytes are written. The measure is the bytes left.
 -- Assumes nothing.
 use Prim.Native.Nat.{◌-◌}
 use Rattle.pbm.proofs.Showing.{Lined}

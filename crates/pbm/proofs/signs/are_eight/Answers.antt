@@ -1,12 +1,12 @@
 -- `pbm::signs::are_eight` meets its contract: by what `is_dot` says of each byte.
 -- Assumes nothing.
--- the order in which the tests are joined
 use mathlib.Core.Path.{◌≡◌, ◌∙◌}
 use mathlib.Core.Bool.{Bool, true, ◌&&◌, and_assoc, and-true}
 use Rattle.pbm.specs.Contents.{are_dots}
 use Rattle.pbm.proofs.Taking.{eight}
 use Rattle.pbm.proofs.signs.are_eight.Goals as goal
 
+-- the order in which the tests are joined
 regroup : (a b c d e f g h : Bool)
     → (((a && b) && c) && d) && (((e && f) && g) && h) ≡ a && (b && (c && (d && (e && (f && (g && (h && true)))))))
 regroup a b c d e f g h = simp (and_assoc, and-true)

@@ -1,5 +1,4 @@
--- `pbm::signs::search` meets its contract. The loop's invariant: k of the signs are found, all dots. The measure is the signs
--- left.
+-- `pbm::signs::search` meets its contract.
 -- Assumes nothing.
 use mathlib.Core.Path.{sym, ◌∙◌}
 use native.Mathlib.Omega.{arith}

@@ -1,5 +1,4 @@
--- `pbm::signs::search` meets its contract. The loop's invariant: k of the signs are found, all dots. The measure is the signs
--- left.
+-- `pbm::signs::search`: the loop's invariant: k of the signs are found, all dots. The measure is the signs left.
 -- Assumes nothing.
 use Prim.Native.Nat.{◌-◌}
 use Rattle.pbm.proofs.Eights.{Sought}

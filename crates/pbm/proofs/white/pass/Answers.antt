@@ -1,5 +1,4 @@
--- `pbm::white::pass` meets its contract. The loop's invariant: what is left behind the white space is the same from the start on
--- and from i on, in a comment or not (`Passing`). The measure is the bytes left.
+-- `pbm::white::pass` meets its contract.
 -- Assumes nothing.
 use mathlib.Core.Path.{refl, sym, ◌∙◌}
 use borrow.Author.Rules.{rules}

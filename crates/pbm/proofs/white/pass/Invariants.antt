@@ -1,5 +1,5 @@
--- `pbm::white::pass` meets its contract. The loop's invariant: what is left behind the white space is the same from the start on
--- and from i on, in a comment or not (`Passing`). The measure is the bytes left.
+-- `pbm::white::pass`: the loop's invariant: what is left behind the white space is the same from the start on and from i on, in a
+-- comment or not (`Passing`). The measure is the bytes left.
 -- Assumes nothing.
 use Prim.Native.Nat.{◌-◌}
 use lib.ListN.{length}

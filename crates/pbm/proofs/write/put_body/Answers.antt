@@ -1,5 +1,4 @@
--- `pbm::write::put_body` meets its contract. The loop's invariant: whoever writes the y lowest lines behind what is written has
--- written the whole picture, and there is room for them. The measure is the lines left.
+-- `pbm::write::put_body` meets its contract.
 -- Assumes nothing.
 use mathlib.Core.Path.{◌≡◌, refl}
 use Prim.Native.Nat.{◌*◌, ◌-◌}

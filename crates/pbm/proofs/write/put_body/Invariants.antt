@@ -1,5 +1,5 @@
--- `pbm::write::put_body` meets its contract. The loop's invariant: whoever writes the y lowest lines behind what is written has
--- written the whole picture, and there is room for them. The measure is the lines left.
+-- `pbm::write::put_body`: the loop's invariant: whoever writes the y lowest lines behind what is written has written the whole picture,
+-- and there is room for them. The measure is the lines left.
 -- Assumes nothing.
 use mathlib.Core.Path.{◌≡◌}
 use mathlib.Core.List.{List}

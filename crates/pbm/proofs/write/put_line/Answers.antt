@@ -1,5 +1,4 @@
--- `pbm::write::put_line` meets its contract. The loop's invariant: the signs of the first k bytes are written.
--- The measure is the bytes left.
+-- `pbm::write::put_line` meets its contract.
 -- Assumes nothing.
 use mathlib.Core.Path.{◌≡◌}
 use native.Mathlib.Omega.{arith}

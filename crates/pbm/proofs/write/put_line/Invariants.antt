@@ -1,5 +1,4 @@
--- `pbm::write::put_line` meets its contract. The loop's invariant: the signs of the first k bytes are written.
--- The measure is the bytes left.
+-- `pbm::write::put_line`: the loop's invariant: the signs of the first k bytes are written. The measure is the bytes left.
 -- Assumes nothing.
 use mathlib.Core.Path.{◌≡◌}
 use Prim.Native.Nat.{◌+◌, ◌*◌, ◌-◌, ◌≤◌}

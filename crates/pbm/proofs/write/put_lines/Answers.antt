@@ -1,5 +1,4 @@
--- `pbm::write::put_lines` meets its contract. The loop's invariant: the first k lines are written.
--- The measure is the lines left.
+-- `pbm::write::put_lines` meets its contract.
 -- Assumes nothing.
 use mathlib.Core.Path.{◌≡◌}
 use Prim.Native.Nat.{◌+◌, ◌*◌}

@@ -1,4 +1,4 @@
--- `picture::dot::fill` meets its contract. After i turns the first i bytes are v and the rest is as at the start.
+-- `picture::dot::fill`: after i turns the first i bytes are v and the rest is as at the start.
 -- Assumes nothing.
 use mathlib.Core.Path.{◌≡◌}
 use mathlib.Core.List.{◌++◌}

@@ -1,5 +1,4 @@
--- `picture::run::paint_rows` meets its contract. The loop's invariant: the first r rows are painted, and `at` is the first dot of
--- the next. The measure is the rows left.
+-- `picture::run::paint_rows` meets its contract.
 -- Assumes nothing.
 use mathlib.Core.Path.{◌≡◌, refl, ap, ◌∙◌}
 use Prim.Native.Nat.{◌+◌, ◌*◌}

@@ -1,5 +1,5 @@
--- `picture::run::paint_rows` meets its contract. The loop's invariant: the first r rows are painted, and `at` is the first dot of
--- the next. The measure is the rows left.
+-- `picture::run::paint_rows`: the loop's invariant: the first r rows are painted, and `at` is the first dot of the next. The measure is
+-- the rows left.
 -- Assumes nothing.
 use mathlib.Core.Path.{◌≡◌}
 use Prim.Native.Nat.{◌+◌, ◌-◌, ◌*◌, ◌≤◌}

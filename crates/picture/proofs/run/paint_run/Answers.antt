@@ -1,5 +1,4 @@
--- `picture::run::paint_run` meets its contract. The loop's invariant: the first `done` dots are painted.
--- The measure is the dots left.
+-- `picture::run::paint_run` meets its contract.
 -- Assumes nothing.
 use mathlib.Core.Path.{◌≡◌, refl, ap, ◌∙◌}
 use mathlib.Core.List.{[], ◌∷◌}

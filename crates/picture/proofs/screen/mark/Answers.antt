@@ -1,4 +1,3 @@
--- the dot is in the picture
 use Prim.Native.Nat.{◌+◌, ◌*◌, ◌<◌}
 use native.Mathlib.Omega.{arith}
 use lib.ListN.{length}
@@ -6,6 +5,7 @@ use Rattle.picture.proofs.Screens.{in_window}
 use Rattle.picture.proofs.screen.mark.Goals as goal
 use Rattle.picture.proofs.screen.mark.Goals.{Start}
 
+-- the dot is in the picture
 inside : (c : Start) → c.args.y * c.args.w.width + c.args.x < 8 * length c.args.pic.now
 inside c = in_window c.args.w (length c.args.pic.now) c.args.x c.args.y c.requires.screen c.requires.x_lt_width.0 c.requires.x_lt_width.1
 

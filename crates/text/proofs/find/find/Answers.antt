@@ -1,4 +1,4 @@
--- `text::find::find` meets its contract. The loop's invariant: no place passed holds b. The measure is the bytes left.
+-- `text::find::find` meets its contract.
 -- Assumes nothing.
 use borrow.Author.Count.{below_more}
 use borrow.Author.Rules.{rules}

@@ -1,4 +1,4 @@
--- `text::find::find` meets its contract. The loop's invariant: no place passed holds b. The measure is the bytes left.
+-- `text::find::find`: the loop's invariant: no place passed holds b. The measure is the bytes left.
 -- Assumes nothing.
 use mathlib.Core.Path.{◌≡◌}
 use Prim.Native.Nat.{ℕ, ◌≤◌, ◌<◌, ◌-◌}

@@ -1,5 +1,4 @@
--- `text::number::number_of` meets its contract. The loop's invariant: the bytes passed are digits, n is their number, and the
--- rest decides (`Passed`). The measure is the bytes left.
+-- `text::number::number_of` meets its contract.
 -- Assumes nothing.
 use native.Mathlib.Omega.{arith}
 use Rattle.text.proofs.Numbers.{too_short, too_long, fits, passed-more, passed-bad, taken-all, taken_none}

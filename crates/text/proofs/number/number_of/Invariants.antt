@@ -1,5 +1,5 @@
--- `text::number::number_of` meets its contract. The loop's invariant: the bytes passed are digits, n is their number, and the
--- rest decides (`Passed`). The measure is the bytes left.
+-- `text::number::number_of`: the loop's invariant: the bytes passed are digits, n is their number, and the rest decides (`Passed`). The
+-- measure is the bytes left.
 -- Assumes nothing.
 use Prim.Native.Nat.{◌-◌}
 use lib.ListN.{length}

@@ -1,6 +1,5 @@
 -- `gdp::state::Gdp::grant_body` meets its contract: a character's or block's run is the definition's grant.
 -- Assumes nothing.
--- the command steps, and its figure is at hand
 use mathlib.Core.Path.{refl}
 use Prim.Native.Nat.{◌*◌, ◌<◌}
 use native.Mathlib.Omega.{arith}
@@ -13,6 +12,7 @@ use Rattle.gdp.proofs.Steps.{Going, step_refused, step_goes, on_screen, run-gran
 use Rattle.gdp.proofs.state.Gdp.grant_body.Goals as goal
 use Rattle.gdp.proofs.state.Gdp.grant_body.Goals.{Else-number-ne0, Start}
 
+-- the command steps, and its figure is at hand
 pub overflow_mul-cycles : goal.overflow_mul-cycles
 unfolding body_cycles
 overflow_mul-cycles c = omega (arith, c.requires.code_value.2)

@@ -1,6 +1,5 @@
 -- `gdp::state::Gdp::grant_line` meets its contract: a vector's run is the definition's grant.
 -- Assumes nothing.
--- the vector, its line found
 use mathlib.Core.Path.{refl}
 use Prim.Native.Nat.{◌+◌}
 use native.Mathlib.Omega.{arith}
@@ -12,6 +11,7 @@ use Rattle.gdp.proofs.Steps.{Going, step_refused, step_goes, on_screen, run-gran
 use Rattle.gdp.proofs.state.Gdp.grant_line.Goals as goal
 use Rattle.gdp.proofs.state.Gdp.grant_line.Goals.{After-line_of-l, Else-number-ne0}
 
+-- the vector, its line found
 pub returns-then-number-ne0 : goal.returns-then-number-ne0
 unfolding cycles_of vector_cycles
 returns-then-number-ne0 c =

@@ -1,4 +1,3 @@
--- the first tests are those of registers, format and pen
 use mathlib.Core.Path.{◌≡◌, sym, ◌∙◌}
 use mathlib.Core.Bool.{not, ◌||◌}
 use lib.Dec.{ltb}
@@ -9,6 +8,7 @@ use Rattle.gdp.proofs.Flaws.{stray_sorted}
 use Rattle.gdp.proofs.state.Gdp.is_stray.Goals as goal
 use Rattle.gdp.proofs.state.Gdp.is_stray.Goals.{After-is_stray_light_pen}
 
+-- the first tests are those of registers, format and pen
 first : (c : After-is_stray_light_pen) →
     let b = c.args.self in
     ((c.is_bad_regs.result || c.is_no_format.result) || c.is_stray_light_pen.result)

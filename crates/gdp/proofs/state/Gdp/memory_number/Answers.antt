@@ -1,6 +1,5 @@
 -- `gdp::state::Gdp::memory_number` meets its contract: 2, 3 or 0, test after test.
 -- Assumes nothing.
--- the length that was asked for is the format's
 use mathlib.Core.Path.{◌≡◌, sym, ap, ◌∙◌}
 use borrow.Author.Tests.{eq-eqb, ne_eqb}
 use Rattle.parts.specs.Format.{bytes}
@@ -8,6 +7,7 @@ use Rattle.gdp.specs.Flat.{format_of}
 use Rattle.gdp.proofs.state.Gdp.memory_number.Goals as goal
 use Rattle.gdp.proofs.state.Gdp.memory_number.Goals.{After-bytes_of}
 
+-- the length that was asked for is the format's
 size : (c : After-bytes_of) → c.bytes_of.result ≡ bytes (format_of c.args.self)
 size c = c.bytes_of.ensures ∙ ap bytes c.format_of.ensures
 

@@ -1,6 +1,5 @@
 -- `gdp::state::Gdp::read` meets its contract: each refusal in turn, its test the definition's; each arm is the definition's at its address.
 -- Assumes nothing.
--- past the first test the bytes are not stray
 use mathlib.Core.Path.{◌≡◌, sym, ◌∙◌}
 use Prim.Native.Nat.{ℕ, ◌<◌}
 use mathlib.Core.Bool.{Bool, true, false, not, ◌||◌}
@@ -19,6 +18,7 @@ use Rattle.gdp.proofs.Told.{read_told}
 use Rattle.gdp.proofs.state.Gdp.read.Goals as goal
 use Rattle.gdp.proofs.state.Gdp.read.Goals.{else-is_stepping-via-then-is_stepping+else-is_bad_step, else-is_stepping-via-else-is_stepping, After-tidy-next, Else-is_stray, In_default, Joined-else-is_stepping}
 
+-- past the first test the bytes are not stray
 plain : (c : Else-is_stray) → stray c.args.self ≡ false
 plain c = sym c.is_stray.ensures ∙ c.if-is_stray.false
 

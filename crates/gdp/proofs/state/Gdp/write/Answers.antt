@@ -1,6 +1,5 @@
 -- `gdp::state::Gdp::write` meets its contract: each refusal in turn, its test the definition's; accepted, the bytes of a state at rest change as it does.
 -- Assumes nothing.
--- past the first test the bytes are not stray
 use mathlib.Core.Path.{◌≡◌, sym, ap, ◌∙◌}
 use mathlib.Core.Bool.{false}
 use borrow.Author.Tests.{eq-eqb, ne_eqb}
@@ -14,6 +13,7 @@ use Rattle.gdp.proofs.Told.{write_told}
 use Rattle.gdp.proofs.state.Gdp.write.Goals as goal
 use Rattle.gdp.proofs.state.Gdp.write.Goals.{else-is_stepping-via-then-is_stepping+else-is_bad_step, else-is_stepping-via-else-is_stepping, Else-is_stray, Joined-else-is_stepping}
 
+-- past the first test the bytes are not stray
 plain : (c : Else-is_stray) → stray c.args.self ≡ false
 plain c = sym c.is_stray.ensures ∙ c.if-is_stray.false
 
