@@ -6,8 +6,8 @@
 ghost use Rattle.std.specs.Prelude.{◌≡◌, ◌↔◌, ◌<◌, ◌≤◌, length, take, IfOk, IsOk, IsTrue};
 ghost use Rattle.std.specs.Io.KnownBytes.{Appends, Consumes, IsAtEnd};
 
-use std::io;
 use std::io::{ErrorKind, Read, Write};
+use std::{io, str};
 
 // One byte more than a log may have, so that a longer one shows.
 pub fn log_buffer() -> [u8; 65537]
@@ -41,6 +41,18 @@ pub fn read_log<R: Read>(reader: &mut R, log: &mut [u8]) -> io::Result<usize>
     Err(io::Error::from(ErrorKind::TimedOut))
 }
 
+// Writes a line to standard error: what failed, a colon and why, in the system's words and without its number for them.
+fn fail(rt: &impl Eprint, words: &str, why: &io::Error) {
+    let mut text = [0u8; 256];
+    let mut room: &mut [u8] = &mut text;
+    let _ = write!(room, "{why}");
+    let said = str::from_utf8(&text).unwrap_or("").trim_end_matches('\0');
+    let why = said
+        .split_once(" (os error ")
+        .map_or(said, |(name, _)| name);
+    let _ = eprintln!(rt; "{words}: {why}");
+}
+
 // Whether the log was read; where it was not, the words say so on standard error, with why.
 pub fn log_ended(rt: &impl Eprint, read: &io::Result<usize>, words: &str) -> bool
     ensures { IsTrue result ↔ IsOk read.now }
@@ -48,7 +60,7 @@ pub fn log_ended(rt: &impl Eprint, read: &io::Result<usize>, words: &str) -> boo
     match read {
         Ok(_) => true,
         Err(why) => {
-            let _ = eprintln!(rt; "{words}: {why}");
+            fail(rt, words, why);
             false
         }
     }
@@ -61,7 +73,7 @@ pub fn write_answer<W: Write>(rt: &impl Eprint, to: &mut W, answer: &[u8], words
     match to.write_all(answer) {
         Ok(()) => true,
         Err(why) => {
-            let _ = eprintln!(rt; "{words}: {why}");
+            fail(rt, words, &why);
             false
         }
     }
