@@ -1,5 +1,5 @@
 /* The EF9365 / EF9366 for C11 and C++11: link with libgdp.a. `sh tools/archive` makes it for the processor at hand; for
-   x86-64 and its System V calling convention it is what `rt staticlib card` makes, under that name (README.md).
+   x86-64 and its System V calling convention it is what `rt lib` makes in crates/card, under that name (README.md).
 
    A call of the processor takes the state by value and hands back the next one; the two that write and read a picture
    as a file have nothing to do with it. The library keeps nothing, allocates nothing, has no variables of its own and
