@@ -3,7 +3,8 @@
 // holds it is all of them; what is written is the whole answer. What the system hands over is its own affair.
 #![tactic(auto)]
 
-ghost use Rattle.std.specs.Prelude.{◌≡◌, ◌↔◌, ◌<◌, ◌≤◌, length, take, IfOk, IsOk, IsTrue};
+ghost use Rattle.std.specs.Prelude.{◌≡◌, ◌≢◌, ◌↔◌, ◌<◌, ◌≤◌, length, take, IfErr, IfOk, IsOk, IsTrue};
+ghost use Rattle.std.specs.IoError.{error_kind};
 ghost use Rattle.std.specs.Io.KnownBytes.{Appends, Consumes, IsAtEnd};
 
 use std::io::{ErrorKind, Read, Write};
@@ -22,6 +23,7 @@ pub fn read_log<R: Read>(reader: &mut R, log: &mut [u8]) -> io::Result<usize>
     ensures within { IfOk result (λ n. n ≤ length log.new) }
     ensures bytes { IfOk result (λ n. Consumes (R.remaining reader.old) (R.remaining reader.new) (take n log.new)) }
     ensures end { IfOk result (λ n. n < length log.new → IsAtEnd (R.remaining reader.new)) }
+    ensures retried { IfErr result (λ e. error_kind e ≢ ErrorKind.Interrupted) }
 {
     let mut got = 0;
     for _ in 0..u64::MAX {
