@@ -1,4 +1,5 @@
--- What is filled is what was consumed.
+-- The filled part is what was consumed, and the buffer keeps its length.
+-- Assumes nothing.
 use Rattle.std.proofs.Common.{◌≡◌, ◌≤◌, length, take}
 use Rattle.std.specs.Io.KnownBytes.{Consumes}
 use Rattle.console.proofs.read_log.Given as goal
