@@ -14,7 +14,7 @@ FACTS = {"fits_by": "FitsBy"}
 TOP = os.path.dirname(os.path.dirname(os.path.abspath(__file__)))
 BREAK = r"\s(){}\[\],;.\"`#|«»"
 TOKEN = re.compile(rf"[^{BREAK}]+")
-SIGNATURE = re.compile(r"^(?:  )?(?:(?:abbrev|unfoldable|pub|axiom) )*(?P<name>[^\s(){}:.]+) :(?= |$)")
+SIGNATURE = re.compile(r"^(?:  ){0,3}(?:(?:abbrev|unfoldable|pub|axiom) )*(?P<name>[^\s(){}:.]+) :(?= |$)")
 MEMBER = re.compile(r"^ +(?:pub )?(?P<name>[^\s(){}:.=]+) :(?= |$)")
 
 
@@ -35,7 +35,10 @@ def declared():
     """Each name that a file of specs/ or proofs/ declares, with the files that do; not the goals' names in a function's proof."""
     found = {}
     for path in files(".antt"):
-        of_function = os.path.basename(path) == "Proof.antt"
+        below = path.split("/proofs/")[-1] if "/proofs/" in path else ""
+        of_function = "/" in below
+        if of_function and not path.endswith("/Proof.antt"):
+            continue
         inside = False
         for line in read(path).split("\n"):
             if line.startswith("--") or line.startswith("use "):

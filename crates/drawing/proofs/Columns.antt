@@ -21,7 +21,7 @@ use Rattle.motion.specs.Position.{moved}
 use Rattle.motion.specs.Character.{u_of, v_of, column_of, row_of, lying, along, laid}
 use Rattle.motion.specs.Working.Cells.{Counts, OnPlace}
 use Rattle.motion.specs.Glyph.{inked}
-use Rattle.motion.proofs.Laws.{Splits, splits, whole, way_at, laid_on, split-i, split-u}
+use Rattle.motion.proofs.Laws.{Splits, splits, whole, way_at, laid_on, split_i, split_u}
 use Rattle.drawing.specs.declared.tip.Tip.{Tip}
 use Rattle.drawing.specs.Figure.{Cells, way, writes}
 use Rattle.drawing.specs.Run.{mark, place_of, dot_of, dots_from}
@@ -72,10 +72,10 @@ by_rows lit b c dot row start same pic =
 module _ (t : Tip) {lie : Lie} {b : Body} {c : Cell} (g : Counts b c) (w : AtFoot t lie b c) where
   -- the column starts at u, a multiple of P
   starts_u : u_of b c.i ≡ c.column * b.p
-  starts_u = omega (arith, whole (split-u g), w.first)
+  starts_u = omega (arith, whole (split_u g), w.first)
 
   starts_i : c.i ≡ u_of b c.i * b.rows
-  starts_i = omega (arith, whole (split-i g), w.foot)
+  starts_i = omega (arith, whole (split_i g), w.foot)
 
   -- the glyph's column in the k-th column of dots
   column_here : {i k v : ℕ} → Splits i b.rows (u_of b c.i + k) v → k < b.p → column_of b i ≡ c.column
@@ -87,7 +87,7 @@ module _ (t : Tip) {lie : Lie} {b : Body} {c : Cell} (g : Counts b c) (w : AtFoo
       → place_of (Cells lie b) start i ≡ moved c.at (laid lie k v)
   unfolding place_of way
   place_here start k {i} {v} place at h =
-      rw (way_at lie b at, place, way_at lie b (split-i g), w.foot)
+      rw (way_at lie b at, place, way_at lie b (split_i g), w.foot)
       (sym (rw zero-add at (laid_on lie start (u_of b c.i) 0 k v (omega arith))))
 
 -- and its row at row v

@@ -17,7 +17,7 @@ use Rattle.motion.specs.Position.{ahead, behind, signed}
 use Rattle.motion.specs.Vector.{along_x, along_y, vector_x, vector_y}
 use Rattle.motion.specs.LineType.{line_on}
 use Rattle.motion.specs.Working.Strokes.{Lengths, error_of}
-use Rattle.motion.proofs.Laws.{ahead_behind, carry, carry_most, error_next, vector-next, vector-from, along_span}
+use Rattle.motion.proofs.Laws.{ahead_behind, carry, carry_most, error_next, vector_next, vector_from, along_span}
 use Rattle.drawing.specs.declared.tip.Tip.{Tip}
 use Rattle.drawing.specs.declared.inside.Strides.{Strides}
 use Rattle.drawing.specs.declared.inside.Trace.{Trace}
@@ -94,7 +94,7 @@ module _ (l : Line) (g : Lengths l) (w h x₀ y₀ : ℕ) where
   dot_next i s k =
       let here = s.inside i (omega arith) (omega arith) in
       let there = s.inside (i + 1) (omega arith) (omega arith) in
-      let next = vector-next l g i k x₀ y₀ in
+      let next = vector_next l g i k x₀ y₀ in
       let hop = hop_most l i g k in
       let across = axis_step l.left _ _ w (hop_x l i) here.0 there.0 s.wide hop.0 next.0 in
       let up = lines_step l.down w _ _ (hop_y l i) (axis_step l.down _ _ h (hop_y l i) here.1 there.1 s.high hop.1 next.1) in
@@ -174,7 +174,7 @@ within_shown w n l at i s g hx hy within =
       high = within.y.short;
       few = omega (arith, s.area, s.small);
       inside = λ j k m.
-          let there = vector-from l g i j k m at.x at.y hx hy in
+          let there = vector_from l g i j k m at.x at.y hx hy in
           let span = along_span l j m in (
             rw there.0 (within.x.inside (along_x l j - along_x l i) (omega (arith, span.0))),
             rw there.1 (within.y.inside (along_y l j - along_y l i) (omega (arith, span.1))),

@@ -153,6 +153,7 @@ fn touch_dot(pic: &mut [u8], lit: bool, on: bool, dot: usize)
 }
 
 // The cycles of a run, by the line type of CTRL2, with the tip down. After the last dot the place stays on it.
+#[inline(never)]
 pub(crate) fn draw_within(pic: &mut [u8], t: Tip, ctrl2: u8, l: Line, run: Run) -> Spot
     requires screen { Screen t.window (length pic.old) × (t.down ≡ true) × Within t.window l run.at }
     requires lengths { Lengths l × Granted (Figure.Stroke ctrl2 l) run }

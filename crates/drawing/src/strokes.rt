@@ -13,6 +13,8 @@ use motion::position::Spot;
 use motion::vector::{Line, next_dot, stroke_at};
 
 // The cycles of a run, by the line type of CTRL2, each dot clipped by itself. After the last dot the place stays on it.
+// Its loop is compiled by itself, where it has all registers.
+#[inline(never)]
 fn draw_across(pic: &mut [u8], t: Tip, ctrl2: u8, l: Line, run: Run) -> Spot
     requires screen { Screen t.window (length pic.old) }
     requires lengths { Lengths l × Granted (Figure.Stroke ctrl2 l) run }

@@ -150,18 +150,18 @@ module _ {b : Gdp} {f : Figure} {pic tab : List ℕ} {m : ℕ} (g : Going b f pi
 
   module _ (n : ℕ) {left used : ℕ} (el : left ≡ m - b.done) (eu : used ≡ min n left) where
     -- the run that the code makes is one that the figure has
-    pub run-granted : Granted f (run_of b used)
+    pub run_granted : Granted f (run_of b used)
     unfolding run_of
-    run-granted =
+    run_granted =
         let at = stray_place b g.command.sound in
         record { some = omega arith; most = omega arith; x = at.0; y = at.1 }
 
     -- and after it the code's answer is the definition's
-    pub step-granted : {s : Spot} {r : Answer} {q : List ℕ}
+    pub step_granted : {s : Spot} {r : Answer} {q : List ℕ}
         → Ran (tip (format_of b) (regs_of b)) f (glyph (tables tab) b.code) (run_of b used) s pic q
         → r ≡ flat_answer (rests_at (state_of b) b.code b.done used left s) → Grants b n pic tab r q
     unfolding run_of flat_answer tip state_of
-    step-granted {s} {r} {q} ran er =
+    step_granted {s} {r} {q} ran er =
         let count : used ≡ min n (cycles_of f - b.done) = omega arith in
         let some : b.done < cycles_of f = omega arith in
         let all : left ≡ cycles_of f - b.done = omega arith in

@@ -49,10 +49,10 @@ pub answer_told : (b : Gdp) (cs : Cases) (v : ℕ) (next : State)
     → answer_of b (answer (lowest ((1, bad (state_of b)) ∷ cs)) v next (state_of b)) ≡ told b (lowest ((1, flawed b) ∷ cs)) v next
 unfolding answer_of answer
 answer_told b cs v next =
-    number_told (λ n. told-twice n) b cs ∙ rw (once (eqb (lowest ((1, flawed b) ∷ cs)) 0) b (state_of b) next)
+    number_told (λ n. told_twice n) b cs ∙ rw (once (eqb (lowest ((1, flawed b) ∷ cs)) 0) b (state_of b) next)
   where
-    told-twice : ℕ → Answer
-    told-twice n = record { number = n; value = cond (eqb n 0) v (refusal n b).value; state = cond (eqb n 0) (flat (cond (eqb n 0) next (state_of b))) b }
+    told_twice : ℕ → Answer
+    told_twice n = record { number = n; value = cond (eqb n 0) v (refusal n b).value; state = cond (eqb n 0) (flat (cond (eqb n 0) next (state_of b))) b }
 
 -- so with each call that is lent nothing
 pub write_told : (b : Gdp) (a v : ℕ) → answer_of b (written (state_of b) a v)

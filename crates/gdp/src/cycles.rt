@@ -151,6 +151,7 @@ impl Gdp {
 
     // A running character or block. Both kinds come by this one way: where each found its body, a
     // grant took 17 instructions more on x86-64.
+    #[inline(always)]
     fn grant_letter(self, n: u16, pic: &mut [u8], table: &[u8]) -> Answer
         requires { (stray self ≡ false) × (work_in self.modes ≡ 1) × (lettering (kind self.code) ≡ true) }
         ensures { Grants self n pic.old table.now result pic.new }

@@ -192,23 +192,23 @@ module _ (b : Body) (s : Sized b) (lie : Lie) where
     pub carry : b.rows ≤ v_of b i + 1 → Splits (i + 1) b.rows (u_of b i + 1) 0
     carry = split_over (split_cycle b i) s.rows0
 
-    v-most : v_of b i < 128
-    v-most = omega (arith, v_lt b s i, s.rows128)
+    v_most : v_of b i < 128
+    v_most = omega (arith, v_lt b s i, s.rows128)
 
     -- so within a column the place goes one dot up
-    pub rise-way : (start : Spot) → v_of b i + 1 < b.rows
+    pub rise_way : (start : Spot) → v_of b i + 1 < b.rows
         → moved (moved start (body_way lie b i)) (laid lie 0 1) ≡ moved start (body_way lie b (i + 1))
-    rise-way start h =
+    rise_way start h =
         rw (way_at lie b (rise h), way_at lie b (split_cycle b i))
-        (rw add-zero at (laid_on lie start (u_of b i) (v_of b i) 0 1 (omega (arith, v-most))))
+        (rw add-zero at (laid_on lie start (u_of b i) (v_of b i) 0 1 (omega (arith, v_most))))
 
     -- and at its top it goes one along and around to the foot: up by what v lacks of 4,096
-    pub carry-way : (start : Spot) → b.rows ≤ v_of b i + 1
+    pub carry_way : (start : Spot) → b.rows ≤ v_of b i + 1
         → moved (moved start (body_way lie b i)) (laid lie 1 (4096 - v_of b i)) ≡ moved start (body_way lie b (i + 1))
-    carry-way start h =
-        let around : v_of b i + (4096 - v_of b i) ≡ 4096 = omega (arith, v-most) in
+    carry_way start h =
+        let around : v_of b i + (4096 - v_of b i) ≡ 4096 = omega (arith, v_most) in
         rw (way_at lie b (carry h), way_at lie b (split_cycle b i))
-        (laid_on lie start (u_of b i) (v_of b i) 1 (4096 - v_of b i) (omega (arith, v-most)) ∙ rw around (laid_around lie start (u_of b i + 1)))
+        (laid_on lie start (u_of b i) (v_of b i) 1 (4096 - v_of b i) (omega (arith, v_most)) ∙ rw around (laid_around lie start (u_of b i + 1)))
 
   -- one past the last cycle is the foot of the column after the last
   end_split : Splits (body_cycles b) b.rows b.columns 0

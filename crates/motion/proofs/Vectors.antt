@@ -86,41 +86,41 @@ module _ (l : Line) where
     product_most i h = omega (arith, mul-le-mul {n₁ = 2 * i} {m₁ = l.short} {n₂ = 510} {m₂ = 255} (omega arith) (omega arith))
 
     -- each dot is at most 255 along each axis
-    pub along-most : (i : ℕ) → i ≤ l.long → (along_x l i ≤ 255) × (along_y l i ≤ 255)
+    pub along_most : (i : ℕ) → i ≤ l.long → (along_x l i ≤ 255) × (along_y l i ≤ 255)
     unfolding along_x along_y
-    along-most i h =
+    along_most i h =
         let P : ℕ → Type 0 = λ n. n ≤ 255 in
         let o : P (offset l.long l.short i) = omega (arith, offset_most l.long l.short i h) in
         (either P l.steep o (omega arith), either P l.steep (omega arith) o)
 
     -- so what is added is at most 4,096
-    pub vector-most : (i : ℕ) → i ≤ l.long → (vector_x l i ≤ 4096) × (vector_y l i ≤ 4096)
+    pub vector_most : (i : ℕ) → i ≤ l.long → (vector_x l i ≤ 4096) × (vector_y l i ≤ 4096)
     unfolding vector_x vector_y
-    vector-most i h =
-        let a = along-most i h in
+    vector_most i h =
+        let a = along_most i h in
         (signed_range l.left (along_x l i) (omega arith), signed_range l.down (along_y l i) (omega arith))
 
     -- one dot further from any start, modulo 4,096
-    pub vector-next : (i : ℕ) → i < l.long → (x y : ℕ)
+    pub vector_next : (i : ℕ) → i < l.long → (x y : ℕ)
         → (ahead x (vector_x l (i + 1)) ≡ ahead (ahead x (vector_x l i)) (signed l.left (cond l.steep (carry l.long l.short i) 1)))
         × (ahead y (vector_y l (i + 1)) ≡ ahead (ahead y (vector_y l i)) (signed l.down (cond l.steep 1 (carry l.long l.short i))))
     unfolding vector_x vector_y
-    vector-next i h x y =
+    vector_next i h x y =
         let n = carry l.long l.short i in
         let a = along_next i h in
-        let m = along-most (i + 1) (omega arith) in (
+        let m = along_most (i + 1) (omega arith) in (
           rw a.0 (sym (signed_more l.left x (along_x l i) (cond l.steep n 1) (omega arith))),
           rw a.1 (sym (signed_more l.down y (along_y l i) (cond l.steep 1 n) (omega arith))),
         )
 
     -- where dot j is, seen from dot i before it
-    pub vector-from : (i j : ℕ) → i ≤ j → j ≤ l.long → (x y : ℕ) → x < 4096 → y < 4096
+    pub vector_from : (i j : ℕ) → i ≤ j → j ≤ l.long → (x y : ℕ) → x < 4096 → y < 4096
         → (ahead (behind x (vector_x l i)) (vector_x l j) ≡ ahead x (signed l.left (along_x l j - along_x l i)))
         × (ahead (behind y (vector_y l i)) (vector_y l j) ≡ ahead y (signed l.down (along_y l j - along_y l i)))
     unfolding vector_x vector_y
-    vector-from i j h k x y hx hy =
+    vector_from i j h k x y hx hy =
         let grows = along_grows i j h in
-        let most = along-most j k in (
+        let most = along_most j k in (
           from l.left x (along_x l i) (along_x l j) hx grows.0 (omega (arith, most.0)),
           from l.down y (along_y l i) (along_y l j) hy grows.1 (omega (arith, most.1)),
         )
@@ -151,7 +151,7 @@ module _ (l : Line) where
   on_next s g h err hs he hu hv x y on =
       let now : min s.i l.long ≡ s.i = min-eq_left (omega arith) in
       let then : min (s.i + 1) l.long ≡ s.i + 1 = min-eq_left (omega arith) in
-      let next = vector-next g s.i h x y in
+      let next = vector_next g s.i h x y in
       record {
         x = hu ∙ rw (then, on.x, now, hs, err) (sym next.0);
         y = hv ∙ rw (then, on.y, now, hs, err) (sym next.1);
@@ -233,14 +233,14 @@ module _ (c dx dy : ℕ) where
 
   -- the line as the code puts it together
   module _ {x y : ℕ} {left down : Bool} (hx : x ≡ length_x c dx dy) (hy : y ≡ length_y c dx dy) (hl : left ≡ minus_x c) (hd : down ≡ minus_y c) where
-    pub line-steep : x < y → record { long = y; short = x; steep = true; left = left; down = down } ≡ line_of c dx dy
+    pub line_steep : x < y → record { long = y; short = x; steep = true; left = left; down = down } ≡ line_of c dx dy
     unfolding line_of
-    line-steep h =
+    line_steep h =
         let l : length_x c dx dy < length_y c dx dy = omega arith in
         simp (hx, hy, hl, hd, lt-ltb _ _ l, max-eq_right (le_of_lt l), min-eq_left (le_of_lt l))
 
-    pub line-flat : y ≤ x → record { long = x; short = y; steep = false; left = left; down = down } ≡ line_of c dx dy
+    pub line_flat : y ≤ x → record { long = x; short = y; steep = false; left = left; down = down } ≡ line_of c dx dy
     unfolding line_of
-    line-flat h =
+    line_flat h =
         let l : length_y c dx dy ≤ length_x c dx dy = omega arith in
         simp (hx, hy, hl, hd, le-ltb _ _ l, max-eq_left l, min-eq_right l)

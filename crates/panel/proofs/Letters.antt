@@ -51,14 +51,14 @@ module _ (l : ℕ) (f : List ℕ) where
     says_write false b m n h d e = rw (h, ← d.is)
 
     -- L: h and v, at most 255
-    pub says-edge : (a b : Bool) (m n : ℕ) → l ≡ 76
+    pub says_edge : (a b : Bool) (m n : ℕ) → l ≡ 76
         → Taken 10 3 f a m → Taken 10 3 g b n
         → record_by l 3 f g ≡ cond (a && b && leb m 255 && leb n 255) (Edge (m % 65536) (n % 65536)) Malformed
     unfolding record_by
-    says-edge true true m n h d e =
+    says_edge true true m n h d e =
         rw (h, ← d.is, ← e.is, ← d.number, ← e.number)
         (same_if (leb m 255 && leb n 255) (λ t.
         let p = and_parts (leb m 255) (leb n 255) t in
         ap₂ Edge (omega (arith, leb-true m 255 p.0)) (omega (arith, leb-true n 255 p.1))))
-    says-edge true false m n h d e = rw (h, ← d.is, ← e.is)
-    says-edge false b m n h d e = rw (h, ← d.is)
+    says_edge true false m n h d e = rw (h, ← d.is, ← e.is)
+    says_edge false b m n h d e = rw (h, ← d.is)

@@ -20,15 +20,15 @@ module _ (input buffer : List ℕ) {r : Answer} {n : ℕ} (size : (pic : List �
   screen_short h e = rw (← size dark, lt-ltb (length buffer) n h) (record { answers = e; memory = refl })
 
   module _ (room : n ≤ length buffer) where
-    pub screen-long : 65536 < length input → r ≡ record { number = 21; value = 0 } → Leaves (screen input buffer) r buffer
+    pub screen_long : 65536 < length input → r ≡ record { number = 21; value = 0 } → Leaves (screen input buffer) r buffer
     unfolding screen
-    screen-long h e =
+    screen_long h e =
         rw (← size dark, le-ltb (length buffer) n room, lt-ltb 65536 (length input) h) (record { answers = e; memory = refl })
 
-    pub screen-shown : {pic after : List ℕ} → length input ≤ 65536 → pic ≡ (shown card (lines_of input)).memory.picture
+    pub screen_shown : {pic after : List ℕ} → length input ≤ 65536 → pic ≡ (shown card (lines_of input)).memory.picture
         → Leaves (written_out Ef9366 pic buffer) r after → Leaves (screen input buffer) r after
     unfolding screen
-    screen-shown h e l = rw (← size dark, le-ltb (length buffer) n room, le-ltb 65536 (length input) h) (rw e at l)
+    screen_shown h e l = rw (← size dark, le-ltb (length buffer) n room, le-ltb 65536 (length input) h) (rw e at l)
 
 -- the statement settles its result
 pub screen_settled : (input buffer : List ℕ) {r q : Answer} {m n : List ℕ}

@@ -14,7 +14,7 @@ use Rattle.text.specs.Pieces.{tab, attached, fields_of}
 use Rattle.text.specs.Numbers.{is_number}
 use Rattle.text.specs.Found.{Found}
 use Rattle.basis.proofs.Cases.{split}
-use Rattle.text.proofs.Laws.{at_tabs, joins, found-cut, found-whole, one_or_tab, no_digits}
+use Rattle.text.proofs.Laws.{at_tabs, joins, found_cut, found_whole, one_or_tab, no_digits}
 use Rattle.panel.specs.declared.parse.Record.{Record}
 use Rattle.panel.specs.declared.parse.Record.TheVariants.{Malformed}
 use Rattle.panel.specs.Record.{letter_of, record_by, record_of}
@@ -111,7 +111,7 @@ module _ (line : List ℕ) (long : 2 < length line) where
     -- none: one field behind the letter
     pub one_field : e ≡ length line → record_of line ≡ record_by (get_or line 0 0) 2 (take (e - 2) (drop 2 line)) []
     unfolding letter_of
-    one_field h = behind ∙ rw (found-whole at_tabs f (omega arith) long)
+    one_field h = behind ∙ rw (found_whole at_tabs f (omega arith) long)
 
     -- one: two fields, or more than any record has
     pub two_fields : (e ≡ length line → ⊥)
@@ -120,4 +120,4 @@ module _ (line : List ℕ) (long : 2 < length line) where
     two_fields h =
         let some : e < length line = omega (arith, f.high, h) in
         let all = take_all (length line - (e + 1)) (drop (e + 1) line) (simp length-drop (omega arith)) in
-        behind ∙ rw (found-cut at_tabs f some, all) (last_field (get_or line 0 0) (take (e - 2) (drop 2 line)) (drop (e + 1) line))
+        behind ∙ rw (found_cut at_tabs f some, all) (last_field (get_or line 0 0) (take (e - 2) (drop 2 line)) (drop (e + 1) line))

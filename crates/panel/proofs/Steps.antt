@@ -53,37 +53,37 @@ module _ {k : ℕ} {s : Gdp} (tidy : Tidy s) {out after : List ℕ} {at end : �
           short = short;
         }
 
-    pub write-stepped : {a v : ℕ} → r ≡ answer_of s (written (state_of s) a v)
+    pub write_stepped : {a v : ℕ} → r ≡ answer_of s (written (state_of s) a v)
         → Wrote out at (answered k r.number []) after end × (end ≤ at + 11)
         → Stepped k s p t (Write a v) out at r.state p after end
     unfolding card_after answer_to next outcome_of flat_answer
-    write-stepped {a} {v} e w =
+    write_stepped {a} {v} e w =
         let is = e ∙ tidied (λ b. answer_of b (written (state_of b) a v)) tidy (written_across (state_of s) (stands_frame s) a v) in
         stepped (written (state_of s) a v) (Write a v) is (write_frame (state_of s) (stands_frame s) a v) refl (rw is at w.0) w.1
 
-    pub edge-stepped : {h v : ℕ} → r ≡ answer_of s (struck (state_of s) h v)
+    pub edge_stepped : {h v : ℕ} → r ≡ answer_of s (struck (state_of s) h v)
         → Wrote out at (answered k r.number []) after end × (end ≤ at + 11)
         → Stepped k s p t (Edge h v) out at r.state p after end
     unfolding card_after answer_to next outcome_of flat_answer
-    edge-stepped {h} {v} e w =
+    edge_stepped {h} {v} e w =
         let is = e ∙ tidied (λ b. answer_of b (struck (state_of b) h v)) tidy (struck_across (state_of s) (stands_frame s) h v) in
         stepped (struck (state_of s) h v) (Edge h v) is (edge_frame (state_of s) (stands_frame s) h v) refl (rw is at w.0) w.1
 
-    pub read-stepped : {a : ℕ} → r ≡ answer_of s (read_out (state_of s) a)
+    pub read_stepped : {a : ℕ} → r ≡ answer_of s (read_out (state_of s) a)
         → Wrote out at (answered k r.number (line_r a r.value)) after end × (end ≤ at + 11)
         → Stepped k s p t (Read a) out at r.state p after end
     unfolding card_after answer_to next outcome_of flat_answer
-    read-stepped {a} e w =
+    read_stepped {a} e w =
         let is = e ∙ tidied (λ b. answer_of b (read_out (state_of b) a)) tidy (read_across (state_of s) (stands_frame s) a) in
         stepped (read_out (state_of s) a) (Read a) is (read_frame (state_of s) (stands_frame s) a) refl (rw is at w.0) w.1
 
   -- the others leave the memory of their outcome
   module _ {p q : List ℕ} where
-    pub cycles-stepped : {n : ℕ} {t : List ℕ} → Grants s n p t r q
+    pub cycles_stepped : {n : ℕ} {t : List ℕ} → Grants s n p t r q
         → Wrote out at (answered k r.number (line_t r.value)) after end × (end ≤ at + 11)
         → Stepped k s p t (Cycles n) out at r.state q after end
     unfolding card_after answer_to next outcome_of flat_answer
-    cycles-stepped {n} {t} o w =
+    cycles_stepped {n} {t} o w =
         let left = grant_frame (state_of s) (stands_frame s) n (memory p) (tables t) in
         let x = granted_across (state_of s) (stands_frame s) n p t (subst (λ (b : Gdp). Grants b n p t r q) tidy o) in
         record {
@@ -93,11 +93,11 @@ module _ {k : ℕ} {s : Gdp} (tidy : Tidy s) {out after : List ℕ} {at end : �
           short = w.1;
         }
 
-    pub blanking-stepped : {level : Bool} (t : List ℕ) → Blanks s level p r q
+    pub blanking_stepped : {level : Bool} (t : List ℕ) → Blanks s level p r q
         → Wrote out at (answered k r.number []) after end × (end ≤ at + 11)
         → Stepped k s p t (Blanking level) out at r.state q after end
     unfolding card_after answer_to next outcome_of flat_answer
-    blanking-stepped {level} t o w =
+    blanking_stepped {level} t o w =
         let left = blank_frame (state_of s) (stands_frame s) level (memory p) in
         let x = blanked_across (state_of s) (stands_frame s) level p (subst (λ (b : Gdp). Blanks b level p r q) tidy o) in
         record {

@@ -68,10 +68,10 @@ module _ (f : Format) (text picture : List ℕ) where
         (behind_head (not (opens text)) (not (sized_as (width f) (height f) text)) (not (are_dots (signs_for f text))))
 
     -- 10 or 11
-    pub wrong-head : {r : Answer} → (d.number ≡ 0 → ⊥) → r ≡ record { number = d.number; value = 0 }
+    pub wrong_head : {r : Answer} → (d.number ≡ 0 → ⊥) → r ≡ record { number = d.number; value = 0 }
         → Leaves (read_in f text picture) r picture
     unfolding read_in settled
-    wrong-head n e =
+    wrong_head n e =
         let no = ne_eqb d.number 0 n in
         let same : in_number f text picture ≡ d.number = number ∙ rw no in
         rw (same, no) (record { answers = e; memory = refl })
@@ -82,24 +82,24 @@ module _ (f : Format) (text picture : List ℕ) where
       unfolding signs_for
       there e = rw (e, (head.stands z).here)
 
-      pub there-bytes : taken (8 * length picture) (drop d.dots text) ≡ signs_for f text
-      there-bytes = there (rw size (bytes_bits f))
+      pub there_bytes : taken (8 * length picture) (drop d.dots text) ≡ signs_for f text
+      there_bytes = there (rw size (bytes_bits f))
 
-      pub there-lines : taken (h * (8 * (w / 8))) (drop d.dots text) ≡ signs_for f text
-      there-lines = there (rw (wide, high) (lines_bits f))
+      pub there_lines : taken (h * (8 * (w / 8))) (drop d.dots text) ≡ signs_for f text
+      there_lines = there (rw (wide, high) (lines_bits f))
 
       -- 12
-      pub wrong-dots : {r : Answer} → are_dots (taken (8 * length picture) (drop d.dots text)) ≡ false
+      pub wrong_dots : {r : Answer} → are_dots (taken (8 * length picture) (drop d.dots text)) ≡ false
           → r ≡ record { number = 12; value = 0 } → Leaves (read_in f text picture) r picture
       unfolding read_in settled
-      wrong-dots b e =
-          let same : in_number f text picture ≡ 12 = number ∙ rw (z, ← there-bytes, b) in
+      wrong_dots b e =
+          let same : in_number f text picture ≡ 12 = number ∙ rw (z, ← there_bytes, b) in
           rw same (record { answers = e; memory = refl })
 
       module _ (good : are_dots (taken (8 * length picture) (drop d.dots text)) ≡ true) where
         -- the lines' signs are dots
         pub lines_dots : are_dots (taken (h * (8 * (w / 8))) (drop d.dots text)) ≡ true
-        lines_dots = rw (there-lines, ← there-bytes) good
+        lines_dots = rw (there_lines, ← there_bytes) good
 
         -- the picture is shown
         pub all_right : {r : Answer} {after : List ℕ} → r ≡ record { number = 0; value = 0 }
@@ -107,5 +107,5 @@ module _ (f : Format) (text picture : List ℕ) where
             → Leaves (read_in f text picture) r after
         unfolding read_in settled
         all_right e p =
-            let same : in_number f text picture ≡ 0 = number ∙ rw (z, ← there-bytes, good) in
-            rw same (record { answers = e; memory = p ∙ rw (there-lines, wide, high, line_bits f) })
+            let same : in_number f text picture ≡ 0 = number ∙ rw (z, ← there_bytes, good) in
+            rw same (record { answers = e; memory = p ∙ rw (there_lines, wide, high, line_bits f) })

@@ -106,17 +106,17 @@ module _ {w h : ℕ} {f : List ℕ} {r : Head} where
 
   module _ {a m e b n d : ℕ} (p : Parts f a m e b n d) where
     -- a number is missing
-    pub head-unopened : (eqb e a || eqb d b) ≡ true → r.number ≡ 10 → Heads w h f r
+    pub head_unopened : (eqb e a || eqb d b) ≡ true → r.number ≡ 10 → Heads w h f r
     unfolding lowest
-    head-unopened t i = refused_head i (omega arith) (rw (opened p, t))
+    head_unopened t i = refused_head i (omega arith) (rw (opened p, t))
 
     module _ (t : (eqb e a || eqb d b) ≡ false) (k : w < 65536) (l : h < 65536) where
       -- the size differs
-      pub head-other : (not (eqb m w) || not (eqb n h)) ≡ true → r.number ≡ 11 → Heads w h f r
+      pub head_other : (not (eqb m w) || not (eqb n h)) ≡ true → r.number ≡ 11 → Heads w h f r
       unfolding lowest
-      head-other s i = refused_head i (omega arith) (rw (opened p, t, sized p k l, s))
+      head_other s i = refused_head i (omega arith) (rw (opened p, t, sized p k l, s))
 
       -- the dots follow
-      pub head-good : (not (eqb m w) || not (eqb n h)) ≡ false → r.number ≡ 0 → r.dots ≡ d → Heads w h f r
+      pub head_good : (not (eqb m w) || not (eqb n h)) ≡ false → r.number ≡ 0 → r.dots ≡ d → Heads w h f r
       unfolding lowest
-      head-good s i j = record { number = i ∙ rw (opened p, t, sized p k l, s); stands = λ _. rw j (at_dots p) }
+      head_good s i j = record { number = i ∙ rw (opened p, t, sized p k l, s); stands = λ _. rw j (at_dots p) }

@@ -60,10 +60,10 @@ module _ {f : List ℕ} {from : ℕ} where
 
   module _ {n i : ℕ} (p : Reading f from n i) where
     -- one digit more
-    pub reading-more : {d m : ℕ} → i < length f → d ≡ digit_value (get_or f i 0) → d < 10 → m ≡ min 65536 (n * 10 + d)
+    pub reading_more : {d m : ℕ} → i < length f → d ≡ digit_value (get_or f i 0) → d < 10 → m ≡ min 65536 (n * 10 + d)
         → Reading f from m (i + 1)
     unfolding digits behind_digits is_digit number_from
-    reading-more {d} {m} h e l k =
+    reading_more {d} {m} h e l k =
         let test = rw e at (lt-ltb d 10 l) in
         record {
           low = omega (arith, p.low);
@@ -85,14 +85,14 @@ module _ {f : List ℕ} {from : ℕ} where
         (omega (arith, p.small), record { low = p.low; high = p.high; here = sym (p.left ∙ none.1) })
 
     -- another byte is next
-    pub reading-stop : {d : ℕ} → i < length f → d ≡ digit_value (get_or f i 0) → 10 ≤ d → Read f from n i
+    pub reading_stop : {d : ℕ} → i < length f → d ≡ digit_value (get_or f i 0) → 10 ≤ d → Read f from n i
     unfolding is_digit
-    reading-stop {d} h e l = stopped (rw (drop_next f i h) (rw e at (le-ltb d 10 l)))
+    reading_stop {d} h e l = stopped (rw (drop_next f i h) (rw e at (le-ltb d 10 l)))
 
     -- the end is reached
-    pub reading-end : length f ≤ i → Read f from n i
+    pub reading_end : length f ≤ i → Read f from n i
     unfolding is_digit digit_value
-    reading-end h = stopped (rw (drop_of_length-le f h))
+    reading_end h = stopped (rw (drop_of_length-le f h))
 
 -- a number is there exactly where reading goes on from its place
 pub some_digit : {f : List ℕ} {from end : ℕ} → from ≤ length f → Stands f from end (behind_digits (drop from f))

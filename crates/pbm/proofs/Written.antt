@@ -24,18 +24,18 @@ module _ (f : Format) (pic out : List ℕ) {r : Answer} where
 
   module _ (fits : length pic ≡ bytes f) where
     -- 9: the first test passes, the second fails
-    pub leaves-short : length out < length (file_of f pic) → r ≡ record { number = 9; value = 0 }
+    pub leaves_short : length out < length (file_of f pic) → r ≡ record { number = 9; value = 0 }
         → Leaves (written_out f pic out) r out
     unfolding written_out settled out_number lowest misfit
-    leaves-short short e =
+    leaves_short short e =
         rw (eq-eqb (length pic) (bytes f) fits, lt-ltb (length out) (length (file_of f pic)) short)
         (record { answers = e; memory = refl })
 
     -- accepted: both pass, and the buffer is what was written and what was behind it
-    pub leaves-file : {b : List ℕ} {q : ℕ} → length (file_of f pic) ≤ length out → Wrote out 0 (file_of f pic) b q
+    pub leaves_file : {b : List ℕ} {q : ℕ} → length (file_of f pic) ≤ length out → Wrote out 0 (file_of f pic) b q
         → r ≡ record { number = 0; value = length (file_of f pic) } → Leaves (written_out f pic out) r b
     unfolding written_out settled out_number lowest misfit
-    leaves-file {b} {q} room w e =
+    leaves_file {b} {q} room w e =
         let end : q ≡ length (file_of f pic) = omega (arith, w.end) in
         rw (eq-eqb (length pic) (bytes f) fits, le-ltb (length out) (length (file_of f pic)) room)
         (record { answers = e; memory = sym (take-append-drop q b) ∙ rw (w.bytes, w.rest, end) })
@@ -47,17 +47,17 @@ module _ (f : Format) (pic out : List ℕ) (room : length (file_of f pic) ≤ le
 
   module _ {w h a : ℕ} {b : List ℕ} (wide : w ≡ width f) (high : h ≡ height f) (v : Wrote out 0 (head w h) b a) where
     -- and behind the head for the lines
-    pub body-room : length pic ≡ bytes f
+    pub body_room : length pic ≡ bytes f
         → (length pic ≡ h * (8 * (w / 64))) × (length pic ≤ 65536) × (a + h * (65 * (w / 64)) ≤ length b)
-    body-room fits =
+    body_room fits =
         let lines = format_lines f in
         let end : a ≡ 11 = v.end ∙ rw (wide, high, head_length f) in
         rw (wide, high)
         (omega (arith, lines.1), omega (arith, lines.2), omega (arith, file_length f pic, v.size))
 
     -- the head and then the lines are the file
-    pub file-wrote : {c : List ℕ} {q : ℕ} → Wrote b a (body (64 * (w / 64)) h pic) c q → Wrote out 0 (file_of f pic) c q
+    pub file_wrote : {c : List ℕ} {q : ℕ} → Wrote b a (body (64 * (w / 64)) h pic) c q → Wrote out 0 (file_of f pic) c q
     unfolding file_of file
-    file-wrote u =
+    file_wrote u =
         let whole : 64 * (w / 64) ≡ w = rw wide (format_lines f).0 in
         rw (← wide, ← high) (wrote_more v (rw whole at u))

@@ -53,9 +53,9 @@ module _ {base : ℕ} {f : List ℕ} where
     fits h l = omega (arith, one_more, pow-le-pow_left h (suc i), pow-le-pow_right {n = 16} (omega arith) l)
 
     -- one digit more
-    pub passed-more : {d : ℕ} → i < length f → d ≡ digit_value (get_or f i 0) → d < base → Passed base f (n * base + d) (i + 1)
+    pub passed_more : {d : ℕ} → i < length f → d ≡ digit_value (get_or f i 0) → d < base → Passed base f (n * base + d) (i + 1)
     unfolding are_digits number_from
-    passed-more {d} h e l =
+    passed_more {d} h e l =
         let here : drop i f ≡ get_or f i 0 ∷ drop (i + 1) f = rw (add-one, ← drop-cons f i 0) in
         record {
           within = omega arith;
@@ -65,15 +65,15 @@ module _ {base : ℕ} {f : List ℕ} where
         }
 
     -- a byte that is no digit: the field is no number
-    pub passed-bad : {d : ℕ} (most : ℕ) → i < length f → d ≡ digit_value (get_or f i 0) → base ≤ d → is_number base most f ≡ false
+    pub passed_bad : {d : ℕ} (most : ℕ) → i < length f → d ≡ digit_value (get_or f i 0) → base ≤ d → is_number base most f ≡ false
     unfolding are_digits
-    passed-bad {d} most h e l =
+    passed_bad {d} most h e l =
         no_digits base most f (sym p.good ∙ ap (are_digits base) (drop-cons f i 0 h) ∙ rw (← e, le-ltb d base l))
 
     -- the end: it is a number, and n is it
-    pub taken-all : {most : ℕ} → 0 < base → length f ≤ i → 0 < length f → length f ≤ most → Taken base most f true n
+    pub taken_all : {most : ℕ} → 0 < base → length f ≤ i → 0 < length f → length f ≤ most → Taken base most f true n
     unfolding are_digits number_from is_number
-    taken-all {most} some h k l =
+    taken_all {most} some h k l =
         let end = drop_of_length-le f h in
         let e : are_digits base f ≡ true = sym p.good ∙ ap (are_digits base) end in
         record {

@@ -54,8 +54,8 @@ module _ {at : ℕ} {pieces : List ℕ → List (List ℕ)} (cuts : Cuts at piec
     none_before : (j : ℕ) → j < e - from → get_or (drop from s) j 0 ≡ at → ⊥
     none_before j l q = f.none (from + j) (omega arith) (omega arith) (sym (get_or-drop from s j 0) ∙ q)
 
-    pub found-cut : e < length s → pieces (drop from s) ≡ take (e - from) (drop from s) ∷ pieces (drop (e + 1) s)
-    found-cut h =
+    pub found_cut : e < length s → pieces (drop from s) ≡ take (e - from) (drop from s) ∷ pieces (drop (e + 1) s)
+    found_cut h =
         let low = f.low in
         let there : from + (e - from) ≡ e = omega arith in
         let past : from + suc (e - from) ≡ e + 1 = omega arith in
@@ -64,7 +64,7 @@ module _ {at : ℕ} {pieces : List ℕ → List (List ℕ)} (cuts : Cuts at piec
         ∙ ap (λ (k : List ℕ). take (e - from) (drop from s) ∷ pieces k)
         (drop-drop (suc (e - from)) from s ∙ ap (λ (k : ℕ). drop k s) past)
 
-    pub found-whole : length s ≤ e → from < length s → pieces (drop from s) ≡ take (e - from) (drop from s) ∷ []
-    found-whole h l =
+    pub found_whole : length s ≤ e → from < length s → pieces (drop from s) ≡ take (e - from) (drop from s) ∷ []
+    found_whole h l =
         rw (take_all (e - from) (drop from s) (simp length-drop (omega arith)))
         (whole (drop from s) (simp length-drop (omega arith)) (λ j k. none_before j (omega (arith, length-drop from s))))

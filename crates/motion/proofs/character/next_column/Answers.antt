@@ -3,16 +3,16 @@
 use mathlib.Core.Path.{refl, ◌∙◌}
 use native.Mathlib.Omega.{arith}
 use Rattle.motion.proofs.Counting.{split_none}
-use Rattle.motion.proofs.Cells.{counted, counters-small, split_past, split_next, on_passed}
+use Rattle.motion.proofs.Cells.{counted, counters_small, split_past, split_next, on_passed}
 use Rattle.motion.proofs.character.next_column.Goals as goal
 
 pub overflow_add-result : goal.overflow_add-result
 overflow_add-result c =
-    omega (arith, counters-small c.requires.1 c.requires.0)
+    omega (arith, counters_small c.requires.1 c.requires.0)
 
 pub overflow_add-result-2 : goal.overflow_add-result-2
 overflow_add-result-2 c =
-    omega (arith, counters-small c.requires.1 c.requires.0)
+    omega (arith, counters_small c.requires.1 c.requires.0)
 
 pub returns : goal.returns
 returns c =

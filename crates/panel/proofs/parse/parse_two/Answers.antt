@@ -2,7 +2,7 @@
 -- Assumes nothing.
 use mathlib.Core.Path.{sym, ◌∙◌}
 use Rattle.panel.proofs.Records.{other_two}
-use Rattle.panel.proofs.Letters.{says_write, says-edge}
+use Rattle.panel.proofs.Letters.{says_write, says_edge}
 use Rattle.panel.proofs.parse.parse_two.Goals as goal
 
 pub returns-then-a-v : goal.returns-then-a-v
@@ -20,13 +20,13 @@ returns-then-letter-eq87 c =
 pub returns-then-h-v : goal.returns-then-h-v
 returns-then-h-v c =
     sym
-    (says-edge _ _ _ _ _ _ _ c.if-letter-eq76.true c.number_of-h.ensures c.number_of-v-then-letter-eq76.ensures
+    (says_edge _ _ _ _ _ _ _ c.if-letter-eq76.true c.number_of-h.ensures c.number_of-v-then-letter-eq76.ensures
     ∙ rw c.if-h-v.true)
 
 pub returns-then-letter-eq76 : goal.returns-then-letter-eq76
 returns-then-letter-eq76 c =
     sym
-    (says-edge _ _ _ _ _ _ _ c.if-letter-eq76.true c.number_of-h.ensures c.number_of-v-then-letter-eq76.ensures
+    (says_edge _ _ _ _ _ _ _ c.if-letter-eq76.true c.number_of-h.ensures c.number_of-v-then-letter-eq76.ensures
     ∙ rw c.if-h-v.false)
 
 pub returns : goal.returns

@@ -2,7 +2,7 @@
 -- Assumes nothing.
 use native.Mathlib.Omega.{arith}
 use Rattle.panel.proofs.Answers.{edge_small}
-use Rattle.panel.proofs.Steps.{edge-stepped}
+use Rattle.panel.proofs.Steps.{edge_stepped}
 use Rattle.panel.proofs.play.play_edge.Goals as goal
 
 pub put_refusal-end-requires : goal.put_refusal-end-requires
@@ -11,4 +11,4 @@ put_refusal-end-requires c =
     (c.requires, rw c.strike_lpck-a.ensures (omega (arith, edge_small a.s a.h a.v)))
 
 pub returns : goal.returns
-returns c tidy p t = edge-stepped tidy p t c.strike_lpck-a.ensures c.put_refusal-end.ensures
+returns c tidy p t = edge_stepped tidy p t c.strike_lpck-a.ensures c.put_refusal-end.ensures

@@ -1,7 +1,7 @@
 -- `pbm::read::read_pbm` meets its contract: each refusal in turn, and else the picture is shown.
 -- Assumes nothing.
 use mathlib.Core.Path.{sym, ◌∙◌}
-use Rattle.pbm.proofs.Answers.{lines_bytes, wrong_length, wrong-head, wrong-dots, lines_dots, all_right}
+use Rattle.pbm.proofs.Answers.{lines_bytes, wrong_length, wrong_head, wrong_dots, lines_dots, all_right}
 use Rattle.pbm.proofs.read.read_pbm.Goals as goal
 
 pub returns-then-pic-bytes_of : goal.returns-then-pic-bytes_of
@@ -10,7 +10,7 @@ returns-then-pic-bytes_of c =
 
 pub returns-then-head-ne0 : goal.returns-then-head-ne0
 returns-then-head-ne0 c =
-    wrong-head _ _ _ (c.if-pic-bytes_of.false ∙ c.bytes_of.ensures) c.width_of-width.ensures c.height_of-height.ensures
+    wrong_head _ _ _ (c.if-pic-bytes_of.false ∙ c.bytes_of.ensures) c.width_of-width.ensures c.height_of-height.ensures
     c.read_head-head.ensures c.if-head-ne0.true c.refused-then-head-ne0.ensures
 
 pub are_dots-requires : goal.are_dots-requires
@@ -18,7 +18,7 @@ are_dots-requires c = (c.read_head-head.ensures.stands c.if-head-ne0.false).high
 
 pub returns-then-not-are_dots : goal.returns-then-not-are_dots
 returns-then-not-are_dots c =
-    wrong-dots _ _ _ (c.if-pic-bytes_of.false ∙ c.bytes_of.ensures) c.width_of-width.ensures c.height_of-height.ensures
+    wrong_dots _ _ _ (c.if-pic-bytes_of.false ∙ c.bytes_of.ensures) c.width_of-width.ensures c.height_of-height.ensures
     c.read_head-head.ensures c.if-head-ne0.false (sym c.are_dots.ensures ∙ c.if-not-are_dots.true)
     c.refused-then-not-are_dots.ensures
 

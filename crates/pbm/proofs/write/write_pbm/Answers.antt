@@ -4,7 +4,7 @@ use Prim.Native.Nat.{◌≤◌}
 use native.Mathlib.Omega.{arith}
 use lib.ListN.{length}
 use Rattle.pbm.specs.Calls.{file_of}
-use Rattle.pbm.proofs.Written.{leaves_misfit, leaves-short, leaves-file, head_room, body-room, file-wrote}
+use Rattle.pbm.proofs.Written.{leaves_misfit, leaves_short, leaves_file, head_room, body_room, file_wrote}
 use Rattle.pbm.proofs.write.write_pbm.Goals as goal
 
 pub returns-then-pic-bytes_of : goal.returns-then-pic-bytes_of
@@ -15,7 +15,7 @@ returns-then-pic-bytes_of c =
 pub returns-then-out-n : goal.returns-then-out-n
 returns-then-out-n c =
     let args = c.args in
-    leaves-short args.format args.pic.now args.out.now (omega arith)
+    leaves_short args.format args.pic.now args.out.now (omega arith)
     (omega (arith, c.file_bytes-n.ensures args.pic.now)) c.refused-then-out-n.ensures
 
 pub put_head-a-requires : goal.put_head-a-requires
@@ -26,7 +26,7 @@ put_head-a-requires c =
 pub put_body-requires : goal.put_body-requires
 put_body-requires c =
     let args = c.args in
-    body-room args.format args.pic.now args.out.now (omega (arith, c.file_bytes-n.ensures args.pic.now))
+    body_room args.format args.pic.now args.out.now (omega (arith, c.file_bytes-n.ensures args.pic.now))
     c.width_of-width.ensures c.height_of-height.ensures c.put_head-a.ensures (omega arith)
 
 pub returns : goal.returns
@@ -34,7 +34,7 @@ returns c =
     let args = c.args in
     let size = c.file_bytes-n.ensures args.pic.now in
     let room : length (file_of args.format args.pic.now) ≤ length args.out.now = omega arith in
-    leaves-file args.format args.pic.now args.out.now (omega arith) room
-    (file-wrote args.format args.pic.now args.out.now room
+    leaves_file args.format args.pic.now args.out.now (omega arith) room
+    (file_wrote args.format args.pic.now args.out.now room
     c.width_of-width.ensures c.height_of-height.ensures c.put_head-a.ensures c.put_body.ensures)
     (rw (← size) c.accepted.ensures)

@@ -8,7 +8,7 @@ use Rattle.drawing.specs.Figure.{Cells, cycles_of}
 use Rattle.rules.specs.Figure.{lie}
 use Rattle.gdp.specs.Flat.{regs_of}
 use Rattle.gdp.proofs.Flaws.{plain_named}
-use Rattle.gdp.proofs.Steps.{Going, step_refused, step_goes, on_screen, run-granted, step-granted, figure_steps, has_table}
+use Rattle.gdp.proofs.Steps.{Going, step_refused, step_goes, on_screen, run_granted, step_granted, figure_steps, has_table}
 use Rattle.gdp.proofs.state.Gdp.grant_body.Goals as goal
 use Rattle.gdp.proofs.state.Gdp.grant_body.Goals.{Else-number-ne0, Start}
 
@@ -41,7 +41,7 @@ draw_letter-s-requires c =
         c.requires.code_value.1,
         omega (arith, c.requires.code_value.2),
         has_table c.args.self.code _ byte c.requires.self_value.2 g.table,
-        run-granted g _ refl c.least-used.ensures,
+        run_granted g _ refl c.least-used.ensures,
       );
     }
 
@@ -52,6 +52,6 @@ after_run-requires c =
 
 pub returns : goal.returns
 returns c =
-    step-granted (going (goal.at.returns c).Else-number-ne0) _ refl c.least-used.ensures
+    step_granted (going (goal.at.returns c).Else-number-ne0) _ refl c.least-used.ensures
     c.draw_letter-s.ensures
     (c.after_run.ensures (plain_named c.args.self c.requires.self_value.0) c.requires.self_value.1)

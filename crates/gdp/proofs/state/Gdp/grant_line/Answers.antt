@@ -7,7 +7,7 @@ use Rattle.motion.specs.Vector.{vector_cycles}
 use Rattle.drawing.specs.Figure.{Stroke, cycles_of}
 use Rattle.rules.specs.Figure.{tables, glyph}
 use Rattle.gdp.proofs.Flaws.{plain_named}
-use Rattle.gdp.proofs.Steps.{Going, step_refused, step_goes, on_screen, run-granted, step-granted, vector_steps}
+use Rattle.gdp.proofs.Steps.{Going, step_refused, step_goes, on_screen, run_granted, step_granted, vector_steps}
 use Rattle.gdp.proofs.state.Gdp.grant_line.Goals as goal
 use Rattle.gdp.proofs.state.Gdp.grant_line.Goals.{After-line_of-l, Else-number-ne0}
 
@@ -32,7 +32,7 @@ pub draw_vector-s-requires : goal.draw_vector-s-requires
 draw_vector-s-requires c =
     let g = going (goal.at.draw_vector-s-requires c).Else-number-ne0 in record {
       screen = rw c.tip.ensures (on_screen g);
-      lengths = (c.line_of-l.ensures.1, rw c.run.ensures (run-granted g _ refl c.least-used.ensures));
+      lengths = (c.line_of-l.ensures.1, rw c.run.ensures (run_granted g _ refl c.least-used.ensures));
     }
 
 pub after_run-requires : goal.after_run-requires
@@ -42,6 +42,6 @@ after_run-requires c =
 pub returns : goal.returns
 returns c =
     let ran = c.draw_vector-s.ensures (glyph (tables c.args.table.now) c.args.self.code) in
-    step-granted (going (goal.at.returns c).Else-number-ne0) _ refl c.least-used.ensures
+    step_granted (going (goal.at.returns c).Else-number-ne0) _ refl c.least-used.ensures
     (rw (c.tip.ensures, c.run.ensures) at ran)
     (c.after_run.ensures (plain_named c.args.self c.requires.0) c.requires.1)

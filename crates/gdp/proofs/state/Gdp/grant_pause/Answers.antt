@@ -4,7 +4,7 @@ use mathlib.Core.Path.{refl}
 use native.Mathlib.Omega.{arith}
 use Rattle.drawing.specs.Figure.{Pause, cycles_of}
 use Rattle.gdp.proofs.Flaws.{plain_named}
-use Rattle.gdp.proofs.Steps.{Going, step_refused, step_goes, step-granted, pause_steps, pause_ran}
+use Rattle.gdp.proofs.Steps.{Going, step_refused, step_goes, step_granted, pause_steps, pause_ran}
 use Rattle.gdp.proofs.state.Gdp.grant_pause.Goals as goal
 use Rattle.gdp.proofs.state.Gdp.grant_pause.Goals.{Else-number-ne0, Start}
 
@@ -23,6 +23,6 @@ after_run-requires c = omega (arith, (going (goal.at.after_run-requires c).Else-
 
 pub returns : goal.returns
 returns c =
-    step-granted (going (goal.at.returns c).Else-number-ne0) _ (omega (arith, (going (goal.at.returns c).Else-number-ne0).some)) c.least-used.ensures
+    step_granted (going (goal.at.returns c).Else-number-ne0) _ (omega (arith, (going (goal.at.returns c).Else-number-ne0).some)) c.least-used.ensures
     (pause_ran c.args.self _ _ _ _ c.requires.0)
     (c.after_run.ensures (plain_named c.args.self c.requires.0) c.requires.1)
