@@ -78,8 +78,7 @@ rest_end f at i j h k = rw (le-ltb i (cycles_of f) h, le-ltb j (cycles_of f) k)
 -- and more cycles than are left change nothing more
 pub enough_rested : (s : State) (c p i j : ℕ) → cycles s.regs c ≤ i → cycles s.regs c ≤ j → rested s c p i ≡ rested s c p j
 unfolding rested cycles
-enough_rested s c p i j h k =
-    ap (λ (at : Spot). with_regs (with_place at s.regs) s) (rest_end (figure s.regs c) (start s.regs c p) i j h k)
+enough_rested s c p i j h k = rw (rest_end (figure s.regs c) (start s.regs c p) i j h k)
 
 -- a command that stands on cycle q, after some cycles: state, dots and cycles left
 module _ (s : State) (c p q : ℕ) (h : q < cycles s.regs c) where
