@@ -7,7 +7,8 @@ use native.Mathlib.Nat.{mod-eq_of_lt}
 use native.Mathlib.Omega.{arith}
 use borrow.Author.Tests.{lt-ltb, le-ltb}
 use Rattle.parts.specs.declared.format.Format.{Format}
-use Rattle.gdp.specs.Flat.{format_at, format_in}
+use Rattle.parts.specs.Format.{format_at}
+use Rattle.gdp.specs.Flat.{format_in}
 use Rattle.pbm.specs.declared.answer.Answer.{Answer}
 use Rattle.pbm.specs.Calls.{Outcome, Leaves}
 use Rattle.card.specs.Numbered.{numbered}

@@ -5,7 +5,7 @@ use Prim.Native.Nat.{ℕ}
 use mathlib.Core.Bool.{true}
 use mathlib.Core.List.{List}
 use Rattle.basis.specs.Reading.{every}
-use Rattle.gdp.specs.Flat.{format_at}
+use Rattle.parts.specs.Format.{format_at}
 use Rattle.pbm.specs.Calls.{refused, written_out, read_in}
 use Rattle.pbm.specs.Tables.Calls.{out_by, in_by}
 use Rattle.pbm.proofs.Readings.{write_reading, read_reading}

@@ -2,7 +2,7 @@
 -- Assumes nothing.
 use Rattle.std.specs.Prelude.{ℕ, cond, List, ltb}
 use Rattle.parts.specs.declared.format.Format.{Format}
-use Rattle.gdp.specs.Flat.{format_at}
+use Rattle.parts.specs.Format.{format_at}
 use Rattle.pbm.specs.Calls.{Outcome, refused}
 
 -- a call with the format of number n, lent a memory that it reads and one that it may write. A number of no format is refused

@@ -11,10 +11,11 @@ ghost use Rattle.pbm.specs.Calls.{written_out, read_in, Leaves};
 ghost use Rattle.card.specs.Numbered.{numbered};
 
 use gdp::address::Outputs;
-use gdp::bits::format_of;
 use gdp::fresh::fresh_of;
 use gdp::state::{Answer, Gdp};
-use pbm::answer::{Answer as PbmAnswer, refused};
+use parts::format::Format;
+use parts::refusal::Refusal;
+use pbm::answer::Answer as PbmAnswer;
 use pbm::read::read_pbm;
 use pbm::write::write_pbm;
 
@@ -30,21 +31,21 @@ pub extern "C" fn gdp_fresh(format: u8) -> Answer
 pub extern "C" fn gdp_write(state: Gdp, address: u8, value: u8) -> Answer
     ensures { result ≡ answer_of state (written (state_of state) address value) }
 {
-    state.write(address, value)
+    Answer::of(state, state.write(address, value))
 }
 
 #[unsafe(no_mangle)]
 pub extern "C" fn gdp_read(state: Gdp, address: u8) -> Answer
     ensures { result ≡ answer_of state (read_out (state_of state) address) }
 {
-    state.read(address)
+    Answer::of(state, state.read(address))
 }
 
 #[unsafe(no_mangle)]
 pub extern "C" fn gdp_grant(state: Gdp, n: u16, pic: &mut [u8], table: &[u8]) -> Answer
     ensures { Grants state n pic.old table.now result pic.new }
 {
-    state.grant(n, pic, table)
+    Answer::of(state, state.grant(n, pic, table))
 }
 
 // Level 0 is low, and any other byte is high.
@@ -52,41 +53,43 @@ pub extern "C" fn gdp_grant(state: Gdp, n: u16, pic: &mut [u8], table: &[u8]) ->
 pub extern "C" fn gdp_set_vb(state: Gdp, level: u8, pic: &mut [u8]) -> Answer
     ensures { Blanks state (level_of level) pic.old result pic.new }
 {
-    state.set_vb(level != 0, pic)
+    Answer::of(state, state.set_vb(level != 0, pic))
 }
 
 #[unsafe(no_mangle)]
 pub extern "C" fn gdp_lpck(state: Gdp, h: u16, v: u16) -> Answer
     ensures { result ≡ answer_of state (struck (state_of state) h v) }
 {
-    state.strike_lpck(h, v)
+    Answer::of(state, state.strike_lpck(h, v))
 }
 
 #[unsafe(no_mangle)]
 pub extern "C" fn gdp_address(state: Gdp) -> Outputs
     ensures { result ≡ outputs_of state (located (state_of state)) }
 {
-    state.locate()
+    Outputs::of(state.locate())
 }
 
 // The picture of a format as a plain PBM file. A number of no format is refused with 2: no picture is of its length.
 #[unsafe(no_mangle)]
+#[tactic(auto, unfolding(crate::specs::Numbered::numbered, parts::specs::Format::format_named, parts::specs::Refusal::refusal_number, pbm::specs::Calls::told))]
 pub extern "C" fn gdp_write_pbm(format: u8, pic: &[u8], out: &mut [u8]) -> PbmAnswer
     ensures { Leaves (numbered written_out format pic.now out.old) result out.new }
 {
-    if format < 3 {
-        return write_pbm(format_of(format), pic, out);
+    match Format::try_from(format) {
+        Ok(format) => PbmAnswer::from(write_pbm(format, pic, out)),
+        Err(_) => PbmAnswer::from(Refusal::BadPicture),
     }
-    refused(2)
 }
 
 // A plain PBM file read into a picture of a format.
 #[unsafe(no_mangle)]
+#[tactic(auto, unfolding(crate::specs::Numbered::numbered, parts::specs::Format::format_named, parts::specs::Refusal::refusal_number, pbm::specs::Calls::told))]
 pub extern "C" fn gdp_read_pbm(format: u8, file: &[u8], pic: &mut [u8]) -> PbmAnswer
     ensures { Leaves (numbered read_in format file.now pic.old) result pic.new }
 {
-    if format < 3 {
-        return read_pbm(format_of(format), file, pic);
+    match Format::try_from(format) {
+        Ok(format) => PbmAnswer::from(read_pbm(format, file, pic)),
+        Err(_) => PbmAnswer::from(Refusal::BadPicture),
     }
-    refused(2)
 }

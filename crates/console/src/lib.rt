@@ -7,10 +7,11 @@ ghost use Rattle.std.specs.Prelude.{◌≡◌, ◌≢◌, ◌↔◌, ◌<◌, �
 ghost use Rattle.std.specs.IoError.{error_kind};
 ghost use Rattle.std.specs.Io.KnownBytes.{Appends, Consumes, IsAtEnd};
 
+use std::fmt::Display;
 use std::io::{ErrorKind, Read, Write};
 use std::{io, str};
 
-// One byte more than a log may have, so that a longer one shows.
+// One byte more than a log may have, so that a longer one shows. Fixed memory, so that how much is in it is told beside.
 pub fn log_buffer() -> [u8; 65537]
     ensures { 65537 ≡ length result }
 {
@@ -68,7 +69,7 @@ pub fn log_ended(rt: &impl Eprint, read: &io::Result<usize>, words: &str) -> boo
     }
 }
 
-// Writes an answer, and says whether it was written; where it was not, the words say so on standard error, with why.
+// Writes an answer, and says whether it was written, by a bool, since the system's error is told here and goes no further; where it was not, the words say so on standard error, with why.
 pub fn write_answer<W: Write>(rt: &impl Eprint, to: &mut W, answer: &[u8], words: &str) -> bool
     ensures { IsTrue result → Appends (W.contents to.old) (W.contents to.new) answer.now }
 {
@@ -82,6 +83,6 @@ pub fn write_answer<W: Write>(rt: &impl Eprint, to: &mut W, answer: &[u8], words
 }
 
 // Writes a line to standard error.
-pub fn say(rt: &impl Eprint, words: &str) {
+pub fn say(rt: &impl Eprint, words: impl Display + Drop) {
     let _ = rt.eprintln(words);
 }

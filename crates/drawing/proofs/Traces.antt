@@ -17,7 +17,7 @@ use Rattle.motion.specs.Position.{ahead, behind, signed}
 use Rattle.motion.specs.Vector.{along_x, along_y, vector_x, vector_y}
 use Rattle.motion.specs.LineType.{line_on}
 use Rattle.motion.specs.Working.Strokes.{Lengths, error_of}
-use Rattle.motion.proofs.Laws.{ahead_behind, carry, carry_most, error_next, vector_next, vector_from, along_span}
+use Rattle.motion.proofs.Laws.{carry, carry_most, error_next, vector_next, vector_from, along_span}
 use Rattle.drawing.specs.declared.tip.Tip.{Tip}
 use Rattle.drawing.specs.declared.inside.Strides.{Strides}
 use Rattle.drawing.specs.declared.inside.Trace.{Trace}
@@ -186,17 +186,6 @@ module _ (w : ℕ) (l : Line) where
   pub shown_later : (h x₀ y₀ i j : ℕ) → i ≤ j → Shown w h l x₀ y₀ i → Shown w h l x₀ y₀ j
   shown_later h x₀ y₀ i j k s =
       record { wide = s.wide; high = s.high; few = s.few; inside = λ n m o. s.inside n (omega arith) o }
-
-  -- a trace that is set on dot i
-  pub trace_here : (at : Spot) (i : ℕ) {e : ℕ} → i ≤ l.long → at.x < 4096 → at.y < 4096 → e ≡ error_of l.long l.short i
-      → OnTrace w l (behind at.x (vector_x l i)) (behind at.y (vector_y l i))
-      (record { dot = dot_number w at.x at.y; i = i; error = e })
-  trace_here at i {e} h hx hy he =
-      let now : min i l.long ≡ i = min-eq_left h in
-      record {
-        dot = rw (now, ahead_behind at.x (vector_x l i) hx, ahead_behind at.y (vector_y l i) hy);
-        error = rw now he;
-      }
 
 -- the dot that a trace marks is that of its cycle
 pub trace_marks : (t : Tip) (ctrl2 : ℕ) (l : Line) (x₀ y₀ : ℕ) (s : Trace) {on : Bool} → t.down ≡ true

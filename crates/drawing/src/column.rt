@@ -2,11 +2,11 @@
 ghost use Rattle.std.specs.Prelude.{◌≡◌, true, ◌/◌, ◌≤◌, ◌<◌, length};
 ghost use Rattle.picture.specs.Dot.{paint};
 ghost use Rattle.picture.specs.Screen.{Screen};
-ghost use Rattle.motion.specs.Working.Cells.{Sized, Counts};
+ghost use Rattle.motion.specs.Working.Cells.{Counts};
 ghost use Rattle.drawing.specs.Working.Column.{Inside, Fits, bands_of, bands_dots, Paintable, AtFoot, Whole, Column};
 
 use crate::tip::{Tip, touch_rows};
-use motion::character::{Body, Cell, Lie, along};
+use motion::character::{Cell, Letter, along};
 use motion::glyph::has_ink;
 
 // Whether n by m places lie inside the window, and short of where X and Y step around.
@@ -29,12 +29,12 @@ fn inside(t: Tip, x: u16, y: u16, n: u16, m: u16) -> bool
 }
 
 // Whether a column of the glyph lies inside, from the cell at its first cycle.
-fn fits(t: Tip, lie: Lie, b: Body, c: Cell) -> bool
-    requires { Sized b }
-    ensures { result ≡ true → Fits lie t b c }
+fn fits(t: Tip, letter: Letter, c: Cell) -> bool
+    ensures { result ≡ true → Fits letter.lie t letter.body c }
 {
-    let far = along(lie, b.p, b.rows - 1);
-    if lie.turned {
+    let b = letter.body;
+    let far = along(letter.lie, b.p, b.rows - 1);
+    if letter.lie.turned {
         if c.at.x > 4095 {
             return false;
         }
@@ -47,9 +47,8 @@ fn fits(t: Tip, lie: Lie, b: Body, c: Cell) -> bool
 }
 
 // Whether a cell is on the first cycle of a column of the glyph that can be drawn whole.
-pub(crate) fn is_whole(t: Tip, lie: Lie, b: Body, c: Cell, left: u16) -> bool
-    requires { Sized b }
-    ensures { result ≡ true → Whole t lie b c left }
+pub(crate) fn is_whole(t: Tip, letter: Letter, c: Cell, left: u16) -> bool
+    ensures { result ≡ true → Whole t letter.lie letter.body c left }
 {
     if c.v != 0 {
         return false;
@@ -57,10 +56,10 @@ pub(crate) fn is_whole(t: Tip, lie: Lie, b: Body, c: Cell, left: u16) -> bool
     if c.columndot != 0 {
         return false;
     }
-    if b.p * b.rows > left {
+    if letter.body.p * letter.body.rows > left {
         return false;
     }
-    fits(t, lie, b, c)
+    fits(t, letter, c)
 }
 
 // How a column of the glyph is painted: each row of the glyph is so many lines of so many dots, a stride apart; the next row begins
@@ -78,12 +77,13 @@ pub struct Bands {
 
 // Upright, Q lines of P dots, tilted or not. Turned, P lines of Q dots; the first row ends with the dot at the foot, the next ones
 // follow to the left. Turned and tilted, Q single dots, each to the left of and above the one before, P times.
-fn bands_of(lie: Lie, b: Body, width: usize) -> Bands
-    requires { Sized b × (0 < width) × (width ≤ 524288) }
-    ensures { result ≡ bands_of lie b width }
+fn bands_of(letter: Letter, width: usize) -> Bands
+    requires { (0 < width) × (width ≤ 524288) }
+    ensures { result ≡ bands_of letter.lie letter.body width }
 {
-    if lie.turned {
-        if lie.tilted {
+    let b = letter.body;
+    if letter.lie.turned {
+        if letter.lie.tilted {
             return Bands {
                 dots: 1,
                 lines: b.q,
@@ -104,7 +104,7 @@ fn bands_of(lie: Lie, b: Body, width: usize) -> Bands
             times: 1,
         };
     }
-    let up = if lie.tilted { width + 1 } else { width };
+    let up = if letter.lie.tilted { width + 1 } else { width };
     Bands {
         dots: b.p,
         lines: b.q,
@@ -117,46 +117,40 @@ fn bands_of(lie: Lie, b: Body, width: usize) -> Bands
 }
 
 // All the rows of a column of the glyph once, from a dot on.
-fn draw_bands<'a>(
+fn draw_bands(
     pic: &mut [u8],
     t: Tip,
-    b: Body,
-    glyph: &'a [u8],
+    letter: Letter,
+    glyph: &[u8; 5],
     column: u16,
     s: Bands,
     from: usize,
 )
-    requires sized { Sized b × (length glyph.now ≡ 5) × (t.down ≡ true) × (length pic.old ≤ 65536) }
-    requires paintable { Paintable s from (b.rows / b.q) (length pic.old) }
-    ensures { pic.new ≡ paint t.lit (bands_dots t s glyph.now column from (b.rows / b.q)) pic.old }
+    requires sized { (t.down ≡ true) × (length pic.old ≤ 65536) }
+    requires paintable { Paintable s from (letter.body.rows / letter.body.q) (length pic.old) }
+    ensures { pic.new ≡ paint t.lit (bands_dots t s glyph.now column from (letter.body.rows / letter.body.q)) pic.old }
 {
     let mut d = from;
-    let mut v: u16 = 0;
-    let mut row: u16 = 0;
-    while v < b.rows {
+    for row in 0..letter.body.rows / letter.body.q {
         let on = has_ink(glyph, column, row);
         let at = d - s.back;
         touch_rows(pic, t, on, at, s.stride, s.dots, s.lines);
         d = at + s.ahead;
-        v += b.q;
-        row += 1;
     }
 }
 
 // The cycles of a whole column of the glyph. With the tip up they write nothing.
-pub(crate) fn draw_column<'a>(pic: &mut [u8], t: Tip, lie: Lie, b: Body, glyph: &'a [u8], c: Cell)
+pub(crate) fn draw_column(pic: &mut [u8], t: Tip, letter: Letter, glyph: &[u8; 5], c: Cell)
     requires screen { Screen t.window (length pic.old) }
-    requires sized { Sized b × Counts b c × (length glyph.now ≡ 5) × AtFoot t lie b c }
-    ensures { Column t lie b glyph.now c pic.old pic.new }
+    requires foot { Counts letter.body c × AtFoot t letter.lie letter.body c }
+    ensures { Column t letter.lie letter.body glyph.now c pic.old pic.new }
 {
     if t.down {
-        let s = bands_of(lie, b, t.window.width);
+        let s = bands_of(letter, t.window.width);
         let mut d = c.at.y as usize * t.window.width + c.at.x as usize + s.first;
-        let mut k: u16 = 0;
-        while k < s.times {
-            draw_bands(pic, t, b, glyph, c.column, s, d);
+        for _ in 0..s.times {
+            draw_bands(pic, t, letter, glyph, c.column, s, d);
             d += t.window.width;
-            k += 1;
         }
     }
 }

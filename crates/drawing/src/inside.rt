@@ -4,7 +4,7 @@ ghost use Rattle.picture.specs.Dot.{paint};
 ghost use Rattle.picture.specs.Screen.{Screen};
 ghost use Rattle.motion.specs.Position.{behind};
 ghost use Rattle.motion.specs.Vector.{vector_x, vector_y};
-ghost use Rattle.motion.specs.Working.Strokes.{Lengths, error_of};
+ghost use Rattle.motion.specs.Working.Strokes.{error_of};
 ghost use Rattle.drawing.specs.Figure.{Figure};
 ghost use Rattle.drawing.specs.Run.{Ran};
 ghost use Rattle.drawing.specs.Working.Cycle.{Granted};
@@ -13,7 +13,7 @@ ghost use Rattle.drawing.specs.Working.Inside.{Along, Within, stride, Strode, Sh
 use crate::tip::{Run, Tip};
 use motion::line_type::{is_on, line_type};
 use motion::position::Spot;
-use motion::vector::{Line, error_at, hopped};
+use motion::vector::{Line, Vector, hopped};
 use picture::dot::set_dot;
 use picture::screen::Window;
 
@@ -50,10 +50,10 @@ fn is_along(back: bool, p: u16, n: u16, size: usize) -> bool
 }
 
 // Whether a vector lies inside from a place on, if that is its first dot or a later one.
-pub(crate) fn is_within(w: Window, l: Line, at: Spot) -> bool
-    requires { Lengths l }
-    ensures { result ≡ true → Within w l at }
+pub(crate) fn is_within(w: Window, v: Vector, at: Spot) -> bool
+    ensures { result ≡ true → Within w v.line at }
 {
+    let l = v.line;
     if l.steep {
         return is_along(l.left, at.x, l.short, w.width) & is_along(l.down, at.y, l.long, w.height);
     }
@@ -90,15 +90,14 @@ fn strides_of(l: Line, width: usize) -> Strides
 }
 
 // The trace of a vector whose dot i is at a place.
-fn trace_at(width: usize, l: Line, at: Spot, i: u16) -> Trace
-    requires { Lengths l × (i ≤ l.long) × (at.x < 4096) × (at.y < 4096) × (width < 4096) }
-    ensures { (result.i ≡ i) × OnTrace width l (behind at.x (vector_x l i)) (behind at.y (vector_y l i)) result }
+fn trace_at(width: usize, v: Vector, at: Spot, i: u16) -> Trace
+    requires { (i ≤ v.line.long) × (at.x < 4096) × (at.y < 4096) × (width < 4096) }
+    ensures { (result.i ≡ i) × OnTrace width v.line (behind at.x (vector_x v.line i)) (behind at.y (vector_y v.line i)) result }
 {
-    let error = error_at(l, i);
     Trace {
         dot: at.y as usize * width + at.x as usize,
-        i: i,
-        error: error,
+        i,
+        error: v.error_at(i),
     }
 }
 
@@ -110,23 +109,20 @@ fn hop_stride(by: Strides, step: u16) -> usize
 }
 
 // One dot further. After the last dot it stays.
-fn next_trace(l: Line, by: Strides, s: Trace) -> Trace
-    requires lengths { Lengths l × (s.i ≤ l.long) × (s.error ≡ error_of l.long l.short s.i) }
+fn next_trace(v: Vector, by: Strides, s: Trace) -> Trace
+    requires error_value { (s.i ≤ v.line.long) × (s.error ≡ error_of v.line.long v.line.short s.i) }
     requires dot_bound { (s.dot < 1048576) × (by.straight ≤ 1048576) × (by.diagonal ≤ 1048576) }
-    ensures { (result.i ≡ s.i + 1) × ((width height x y : ℕ) → Strode width l by → Shown width height l x y s.i → OnTrace width l x y s → OnTrace width l x y result) }
+    ensures { (result.i ≡ s.i + 1) × ((width height x y : ℕ) → Strode width v.line by → Shown width height v.line x y s.i → OnTrace width v.line x y s → OnTrace width v.line x y result) }
 {
-    if l.long <= s.i {
-        return Trace {
-            dot: s.dot,
-            i: s.i + 1,
-            error: s.error,
-        };
+    let i = s.i + 1;
+    if v.line.long <= s.i {
+        return Trace { i, ..s };
     }
-    let h = hopped(s.error, l.short, l.long);
+    let h = hopped(s.error, v.line.short, v.line.long);
     let n = hop_stride(by, h.step);
     Trace {
         dot: (s.dot + n) % 1048576,
-        i: s.i + 1,
+        i,
         error: h.error,
     }
 }
@@ -154,20 +150,18 @@ fn touch_dot(pic: &mut [u8], lit: bool, on: bool, dot: usize)
 
 // The cycles of a run, by the line type of CTRL2, with the tip down. After the last dot the place stays on it.
 #[inline(never)]
-pub(crate) fn draw_within(pic: &mut [u8], t: Tip, ctrl2: u8, l: Line, run: Run) -> Spot
-    requires screen { Screen t.window (length pic.old) × (t.down ≡ true) × Within t.window l run.at }
-    requires lengths { Lengths l × Granted (Figure.Stroke ctrl2 l) run }
-    ensures { (glyph : List ℕ) → Ran t (Figure.Stroke ctrl2 l) glyph run result pic.old pic.new }
+pub(crate) fn draw_within(pic: &mut [u8], t: Tip, ctrl2: u8, v: Vector, run: Run) -> Spot
+    requires screen { Screen t.window (length pic.old) × (t.down ≡ true) × Within t.window v.line run.at }
+    requires granted { Granted (Figure.Stroke ctrl2 v.line) run }
+    ensures { (glyph : List ℕ) → Ran t (Figure.Stroke ctrl2 v.line) glyph run result pic.old pic.new }
 {
     let kind = line_type(ctrl2);
-    let by = strides_of(l, t.window.width);
-    let mut s = trace_at(t.window.width, l, run.at, run.from);
-    let mut k: u16 = 0;
-    while k < run.count {
+    let by = strides_of(v.line, t.window.width);
+    let mut s = trace_at(t.window.width, v, run.at, run.from);
+    for _ in 0..run.count {
         let on = is_on(kind, s.i);
         touch_dot(pic, t.lit, on, s.dot);
-        s = next_trace(l, by, s);
-        k += 1;
+        s = next_trace(v, by, s);
     }
     place_of(t.window.width, s.dot)
 }

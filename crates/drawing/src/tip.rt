@@ -9,7 +9,9 @@ use motion::position::Spot;
 use picture::run::paint_rows;
 use picture::screen::{Window, put_dot};
 
-// The window; whether the tip is down, and whether it lights (the pen) or darkens (the eraser).
+// The window; whether the tip is down, and whether it lights (the pen) or darkens (the eraser). It goes beside the picture, not with
+// it in one struct: behind a reference in a struct each dot that is written made the loop read both anew, and a cycle with the pen up
+// took 36 instructions in place of 23.
 #[derive(Clone, Copy)]
 pub struct Tip {
     pub window: Window,
@@ -17,7 +19,8 @@ pub struct Tip {
     pub lit: bool,
 }
 
-// A run of cycles: X and Y on the place of cycle `from`, and how many cycles.
+// A run of cycles: X and Y on the place of cycle `from`, and how many cycles. That a figure has them is said of both in each contract: a
+// struct of both would have the figure's own beside it once more, which is no plainer.
 #[derive(Clone, Copy)]
 pub struct Run {
     pub at: Spot,
@@ -34,6 +37,8 @@ pub(crate) fn touch(pic: &mut [u8], t: Tip, on: bool, x: u16, y: u16)
         put_dot(pic, t.window, x, y, t.lit);
     }
 }
+
+// A type for a tip that is down would have the same three fields once more, which is no plainer.
 
 // Cycles that are on alike, with the tip down: m rows of n dots, the first from dot d on, each so many dots after the one before.
 pub(crate) fn touch_rows(pic: &mut [u8], t: Tip, on: bool, d: usize, stride: usize, n: u16, m: u16)

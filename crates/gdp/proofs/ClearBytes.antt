@@ -2,7 +2,7 @@
 -- Assumes nothing.
 use mathlib.Core.Path.{◌≡◌, refl, sym, ap, ◌∙◌}
 use mathlib.Core.Logic.{◌⊎◌, inl, inr}
-use Prim.Native.Nat.{ℕ, zero, suc, ◌+◌, ◌-◌, ◌*◌, ◌/◌, ◌%◌, ◌<◌, ◌≤◌, min}
+use Prim.Native.Nat.{ℕ, zero, suc, ◌+◌, ◌-◌, ◌*◌, ◌/◌, ◌%◌, ◌<◌, min}
 use mathlib.Core.Bool.{Bool, true, false, cond, ◌&&◌, false≢true}
 use native.Mathlib.Omega.{arith}
 use lib.Pow.{mod-pow-add}
@@ -12,10 +12,10 @@ use Rattle.basis.proofs.Cases.{split, and_parts}
 use Rattle.picture.specs.Bit.{digit, bit_at}
 use Rattle.picture.proofs.Laws.{digit_lt}
 use Rattle.parts.specs.declared.format.Format.{Format}
-use Rattle.parts.specs.Format.{frames}
+use Rattle.parts.specs.Format.{format_at, frames}
 use Rattle.parts.proofs.Laws.{frames_some, frames_most}
 use Rattle.rules.specs.Sequence.{Frames, Work, Idle, Steps, Clear, clear_open, work_falls, work_rises, in_last, clear_lights}
-use Rattle.gdp.specs.Flat.{format_at, work_number, work_at, modes_of, format_in, work_in, named_modes, over_in, frames_in}
+use Rattle.gdp.specs.Flat.{work_number, work_at, modes_of, format_in, work_in, named_modes, over_in, frames_in}
 use Rattle.gdp.specs.Working.Bits.{clear_open_in, modes_fall, modes_rise}
 use Rattle.gdp.proofs.Packing.{format_below, work_part, open_part}
 use Rattle.gdp.proofs.Bytes.{bit_sum, peel, named_put}
@@ -35,13 +35,6 @@ clear_kept m h e =
   where
     joined : (x y z r p q w n : ℕ) → x ≡ q * 64 + y → y ≡ p * 32 + z → z ≡ w * 8 + r → w ≡ 2 → x + 128 * n ≡ r + 8 * (2 + 4 * p + 8 * q + 16 * n)
     joined x y z r p q w n hx hy hz hw = omega arith
-
--- a byte whose format takes one frame, and one whose format takes more, with bit 7 made 0 where it is not in use
-pub one_frame : (m k : ℕ) → k ≤ 1 → m % 128 ≡ m % 128 + 128 * min (m / 128) (k - 1)
-one_frame m k h = omega arith
-
-pub more_frames : (m k : ℕ) → m < 256 → 1 < k → m ≡ m % 128 + 128 * min (m / 128) (k - 1)
-more_frames m k b h = omega arith
 
 -- a fall of VB opens the frame that a clear waits for
 clear_opens : (f : Format) (l : Bool) (o : Frames) → modes_fall (modes_of f (Clear l o)) ≡ modes_of f (work_falls (Clear l o))

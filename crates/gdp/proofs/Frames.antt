@@ -5,21 +5,17 @@ use Prim.Native.Nat.{ℕ, ◌+◌, ◌/◌}
 use mathlib.Core.Bool.{Bool, true, false, ◌&&◌}
 use mathlib.Core.List.{List}
 use lib.Dec.{leb}
-use lib.ListN.{length}
-use borrow.Author.Tests.{eq-eqb}
 use Rattle.basis.proofs.Cases.{and_parts}
 use Rattle.picture.specs.Bit.{bit_at}
 use Rattle.picture.specs.Dot.{whole}
-use Rattle.parts.specs.Format.{bytes, frames}
-use Rattle.parts.specs.Refusal.{lowest}
+use Rattle.parts.specs.Format.{frames}
 use Rattle.rules.specs.Sequence.{light_pen_open}
 use Rattle.rules.specs.State.{State}
 use Rattle.rules.specs.Cycles.{lights}
-use Rattle.rules.specs.Refusals.{wrong_picture}
 use Rattle.rules.specs.Blanking.{fallen, ends_clear, risen, after_vb, picture_vb}
 use Rattle.gdp.specs.declared.state.Gdp.{Gdp}
 use Rattle.gdp.specs.Flat.{light_pen_at, work_in, light_pen_in, flat, format_of, regs_of, frames_in, state_of}
-use Rattle.gdp.specs.Calls.{flawed, Blanks}
+use Rattle.gdp.specs.Calls.{Blanks}
 use Rattle.gdp.specs.Working.Bits.{clear_open_in}
 use Rattle.gdp.proofs.Packing.{light_pen_at_lem, light_pen_part}
 use Rattle.gdp.proofs.ClearBytes.{clear_last, clear_lit}
@@ -45,11 +41,6 @@ pub clear_keeps : (b : Gdp) (picture : List ℕ) → bit_at 1 b.signals ≡ fals
     → picture ≡ picture_vb (state_of b) true picture
 unfolding picture_vb state_of
 clear_keeps b picture v o = rw (v, o) refl
-
--- a VB call is accepted where the state is sound and the picture of the format's length
-pub vb_zero : (b : Gdp) (picture : List ℕ) → flawed b ≡ false → length picture ≡ bytes (format_of b) → vb_code b picture ≡ 0
-unfolding lowest wrong_picture state_of
-vb_zero b picture e f = rw (e, eq-eqb (length picture) (bytes (format_of b)) f) refl
 
 -- the present level changes nothing; a fall opens frames; a rise ends them
 module _ (b : Gdp) (picture : List ℕ) (zero : vb_code b picture ≡ 0) where

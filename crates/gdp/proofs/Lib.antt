@@ -10,3 +10,4 @@ mod Across
 mod Steps
 mod Settled
 mod Readings
+mod Uses

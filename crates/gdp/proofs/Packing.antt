@@ -11,13 +11,13 @@ use Rattle.picture.specs.Bit.{digit, bit_at}
 use Rattle.picture.proofs.Laws.{digit_lt, bit_shift}
 use Rattle.parts.specs.declared.format.Format.{Format}
 use Rattle.parts.specs.declared.format.Format.TheVariants.{Ef9366, FmatHigh, FmatLow}
-use Rattle.parts.specs.Format.{frames}
+use Rattle.parts.specs.Format.{format_number, format_at, frames}
 use Rattle.parts.proofs.Laws.{frames_some}
 use Rattle.rules.specs.Sequence.{Frames, Work, Idle, Steps, Clear, LightPen, Off, Waiting, Open, clear_open, frames_over}
 use Rattle.rules.specs.State.{Flags, State}
 use Rattle.rules.specs.Working.Frames.{FrameToCome}
 use Rattle.gdp.specs.declared.state.Gdp.{Gdp}
-use Rattle.gdp.specs.Flat.{format_number, format_at, light_pen_number, light_pen_at, work_number, code_of, done_of, fills, work_at, modes_of, signals_of, flat, format_in, work_in, light_pen_in, named_modes, named_signals, named, format_of, frames_in, state_of}
+use Rattle.gdp.specs.Flat.{light_pen_number, light_pen_at, work_number, code_of, done_of, fills, work_at, modes_of, signals_of, flat, format_in, work_in, light_pen_in, named_modes, named_signals, named, format_of, frames_in, state_of}
 
 -- each number is below 3
 pub format_below : (f : Format) → format_number f < 3

@@ -6,6 +6,7 @@ use mathlib.Core.List.{List, []}
 use Prim.Native.Nat.{ℕ, zero, suc, ◌+◌, ◌-◌, ◌≤◌, ◌<◌, min}
 use native.Mathlib.Omega.{arith}
 use lib.Dec.{eqb, ltb, leb}
+use Rattle.std.proofs.Common.{Result, Err}
 use lib.ListN.{length}
 use borrow.Author.Tests.{eqb-true, eqb-false, eq-eqb, ltb-true, ltb-false, lt-ltb, le-ltb, leb-true, leb-false, le-leb, lt-leb}
 use Rattle.basis.proofs.Cases.{cond_case, or_parts, and_parts}
@@ -19,7 +20,9 @@ use Rattle.parts.specs.declared.command.Kind.{Kind}
 use Rattle.parts.specs.declared.command.Kind.TheVariants.{NoCycle, OneCycle, Vector}
 use Rattle.parts.specs.Format.{bytes}
 use Rattle.parts.specs.Command.{kind, lettering}
-use Rattle.parts.specs.Refusal.{lowest}
+use Rattle.parts.specs.declared.refusal.Refusal.{Refusal}
+use Rattle.parts.specs.declared.refusal.Refusal.TheVariants.{BadState}
+use Rattle.parts.specs.Refusal.{lowest, refusal_number}
 use Rattle.parts.proofs.Laws.{letter_codes, screen}
 use Rattle.drawing.specs.declared.tip.Tip.{Tip}
 use Rattle.drawing.specs.Figure.{Figure, Stroke, Pause, cycles_of, way, end_way, writes}
@@ -31,9 +34,10 @@ use Rattle.rules.specs.Figure.{Tables, tables, figure_by, figure, cycles, glyph}
 use Rattle.rules.specs.Cycles.{cyclic, tip, here, start, left_of, left, used, dots_of, dots, rested, after_of, after}
 use Rattle.rules.specs.Refusals.{bad_regs, wrong_picture, wrong_table}
 use Rattle.gdp.specs.declared.state.Gdp.{Gdp}
+use Rattle.gdp.specs.declared.state.Reply.{Reply}
 use Rattle.gdp.specs.declared.state.Answer.{Answer}
 use Rattle.gdp.specs.Flat.{work_in, flat, named, format_of, regs_of, frames_in, state_of}
-use Rattle.gdp.specs.Calls.{refusal, Grants}
+use Rattle.gdp.specs.Calls.{as_answer, Grants}
 use Rattle.gdp.specs.Working.Check.{stray, bad_step}
 use Rattle.gdp.specs.Working.Steps.{run_of, memory_number, HasTable, flat_answer, rests_at}
 use Rattle.gdp.proofs.Flaws.{steps_run, others_run, steps_flawed, others_sound}
@@ -127,14 +131,14 @@ module _ {b : Gdp} {f : Figure} (h : Stepping b f) (pic tab : List ℕ) {m : ℕ
   unfolding bad_step cycles lowest wrong_picture wrong_table state_of
   step_code_lem n = rw (em, steps_flawed b h.sound h.steps, h.draws)
 
-  -- with another number than 0 the grant is refused
-  pub step_refused : (n : ℕ) {k : ℕ} → k ≡ step_code b m pic tab → (k ≡ 0 → ⊥)
-      → Grants b n pic tab (refusal k b) pic
-  step_refused n ek ne = grant_refused b n pic tab (step_code_lem n ∙ sym ek) ne
+  -- with one the grant is refused
+  pub step_refused : (n : ℕ) {r : Result Reply Refusal} (why : Refusal) → r ≡ Err why → refusal_number why ≡ step_code b m pic tab
+      → Grants b n pic tab (as_answer b r) pic
+  step_refused n why e k = grant_refused b n pic tab why e (k ∙ sym (step_code_lem n))
 
   -- with 0 it goes on
-  pub step_goes : {k : ℕ} → k ≡ step_code b m pic tab → k ≡ 0 → Going b f pic tab m
-  step_goes ek ez = from (leb m b.done) refl (sym ek ∙ ez)
+  pub step_goes : 0 ≡ step_code b m pic tab → Going b f pic tab m
+  step_goes z = from (leb m b.done) refl (sym z)
     where
       from : (x : Bool) → leb m b.done ≡ x → cond x 1 (memory_number b (length pic) (length tab)) ≡ 0 → Going b f pic tab m
       from true e z = absurd (omega arith)
@@ -217,10 +221,10 @@ module _ (b : Gdp) (sound : stray b ≡ false) (steps : work_in b.modes ≡ 1) w
 
   -- a command without write cycles has none left
   pub nothing_refused : (n : ℕ) (pic tab : List ℕ) → kind b.code ≡ NoCycle
-      → Grants b n pic tab (refusal 1 b) pic
-  unfolding figure_by cycles_of
+      → Grants b n pic tab (as_answer b (Err BadState)) pic
+  unfolding figure_by cycles_of refusal_number
   nothing_refused n pic tab e =
-      step_refused (by_kind e) pic tab {m = 0} refl n (rw (le-leb 0 b.done (omega arith))) (λ z. omega arith)
+      step_refused (by_kind e) pic tab {m = 0} refl n BadState refl (rw (le-leb 0 b.done (omega arith)))
 
 -- every character but 0A and 0B has its glyph in a table of 480 bytes
 pub has_table : (c : ℕ) (tab : List ℕ) → c < 256 → lettering (kind c) ≡ true → length tab ≡ 480 → HasTable c tab

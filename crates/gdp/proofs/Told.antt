@@ -5,11 +5,15 @@ use Prim.Native.Nat.{ℕ}
 use mathlib.Core.Bool.{Bool, true, false, cond, not, ◌||◌}
 use mathlib.Core.List.{List, [], ◌∷◌}
 use lib.Dec.{eqb}
+use Rattle.std.proofs.Common.{Result, Err}
 use lib.ListN.{length}
+use native.Mathlib.Omega.{arith}
 use borrow.Author.Tests.{ne_eqb}
 use Rattle.picture.specs.Dot.{paint}
 use Rattle.parts.specs.Address.{address_of}
-use Rattle.parts.specs.Refusal.{Cases, lowest}
+use Rattle.parts.specs.declared.refusal.Refusal.{Refusal}
+use Rattle.parts.specs.Refusal.{Cases, lowest, refusal_number}
+use Rattle.parts.proofs.Laws.{number_some}
 use Rattle.rules.specs.State.{State}
 use Rattle.rules.specs.Registers.{register_at, after_read}
 use Rattle.rules.specs.Figure.{tables}
@@ -19,11 +23,21 @@ use Rattle.rules.specs.Blanking.{after_vb, picture_vb, after_edge}
 use Rattle.rules.specs.Refusals.{bad, wrong_picture, wrong_table, no_register, read_only, busy, off_screen, write_number, read_number, grant_number, vb_number, edge_number, address_number}
 use Rattle.rules.specs.Calls.{answer, Memory, memory, Outcome, outcome, written, read_out, granted, blanked, struck, no_outputs, located}
 use Rattle.gdp.specs.declared.state.Gdp.{Gdp}
+use Rattle.gdp.specs.declared.state.Reply.{Reply}
 use Rattle.gdp.specs.declared.state.Answer.{Answer}
 use Rattle.gdp.specs.declared.address.Outputs.{Outputs}
 use Rattle.gdp.specs.Flat.{flat, named, format_of, state_of}
-use Rattle.gdp.specs.Calls.{flawed, refusal, answer_of, Leaves, Grants, Blanks, outputs_of}
+use Rattle.gdp.specs.Calls.{flawed, refusal, as_answer, answer_of, Leaves, Grants, Blanks, outputs_of}
 use Rattle.gdp.specs.Working.Steps.{memory_number}
+
+-- bytes that pass the first test of each call are not refused with 1
+pub passed : (b : Gdp) → 0 ≡ lowest ((1, flawed b) ∷ []) → flawed b ≡ false
+unfolding lowest
+passed b = from (flawed b)
+  where
+    from : (f : Bool) → ◌≡◌ {A = ℕ} 0 (cond f 1 0) → f ≡ false
+    from true h = absurd (omega arith)
+    from false h = refl
 
 -- what a call does by the definition's number, and with 1 where the bytes name nothing, it does by the number over refusal 1 whole
 pub number_told : {A : Type 0} (k : ℕ → A) (b : Gdp) (cs : Cases)
@@ -94,11 +108,11 @@ module _ (b : Gdp) (cs : Cases) (v : ℕ) (next : State) (changed m : Memory) wh
   unfolding outcome
   outcome_told = answer_told b cs v next
 
-  pub leaves_refused : {n : ℕ} → lowest ((1, flawed b) ∷ cs) ≡ n → (n ≡ 0 → ⊥)
-      → Leaves b called m (refusal n b) m
-  leaves_refused {n} e h =
-      let z = ne_eqb n 0 h in
-      record { answers = rw (outcome_told, e, z) refl; memories = rw (memory_told, e, z) refl }
+  pub leaves_refused : {r : Result Reply Refusal} (why : Refusal) → r ≡ Err why → refusal_number why ≡ lowest ((1, flawed b) ∷ cs)
+      → Leaves b called m (as_answer b r) m
+  leaves_refused why e n =
+      let z = ne_eqb (refusal_number why) 0 (number_some why) in
+      rw e (record { answers = rw (outcome_told, ← n, z) refl; memories = rw (memory_told, ← n, z) refl })
 
   pub leaves_accepted : lowest ((1, flawed b) ∷ cs) ≡ 0 → {r : Answer} {left : Memory}
       → r ≡ record { number = 0; value = v; state = flat next } → left ≡ changed → Leaves b called m r left
@@ -115,9 +129,10 @@ module _ (b : Gdp) (n : ℕ) (picture table : List ℕ) where
   abbrev grant_left : Memory
   grant_left = memory (paint (lights (state_of b).regs) (dots (state_of b) (tables table) n) picture)
 
-  pub grant_refused : {k : ℕ} → grant_code ≡ k → (k ≡ 0 → ⊥) → Grants b n picture table (refusal k b) picture
+  pub grant_refused : {r : Result Reply Refusal} (why : Refusal) → r ≡ Err why → refusal_number why ≡ grant_code
+      → Grants b n picture table (as_answer b r) picture
   unfolding granted grant_number
-  grant_refused e h = leaves_refused b grant_cases (used (state_of b) n) (after (state_of b) n) grant_left (memory picture) e h
+  grant_refused why e h = leaves_refused b grant_cases (used (state_of b) n) (after (state_of b) n) grant_left (memory picture) why e h
 
   pub grant_accepted : grant_code ≡ 0 → {r : Answer} {p : List ℕ}
       → r ≡ record { number = 0; value = used (state_of b) n; state = flat (after (state_of b) n) }
@@ -142,10 +157,10 @@ module _ (b : Gdp) (level : Bool) (picture : List ℕ) where
   abbrev vb_left : Memory
   vb_left = memory (picture_vb (state_of b) level picture)
 
-  pub vb_refused : {k : ℕ} → vb_code b picture ≡ k → (k ≡ 0 → ⊥)
-      → Blanks b level picture (refusal k b) picture
+  pub vb_refused : {r : Result Reply Refusal} (why : Refusal) → r ≡ Err why → refusal_number why ≡ vb_code b picture
+      → Blanks b level picture (as_answer b r) picture
   unfolding blanked vb_number
-  vb_refused e h = leaves_refused b (vb_cases b picture) 0 (after_vb (state_of b) level) vb_left (memory picture) e h
+  vb_refused why e h = leaves_refused b (vb_cases b picture) 0 (after_vb (state_of b) level) vb_left (memory picture) why e h
 
   pub vb_accepted : vb_code b picture ≡ 0 → {r : Answer} {p : List ℕ}
       → r ≡ record { number = 0; value = 0; state = flat (after_vb (state_of b) level) }

@@ -1,14 +1,19 @@
 -- The calls over sixteen bytes are those of crate rules over the state that the bytes stand for.
 -- Assumes nothing.
-use Rattle.std.specs.Prelude.{◌≡◌, ℕ, List, Bool, cond, not, ◌||◌, eqb, ltb}
+use Rattle.std.specs.Prelude.{◌≡◌, ℕ, List, Bool, cond, not, ◌||◌, eqb, ltb, Result, Ok, Err}
+use Rattle.parts.specs.declared.refusal.Refusal.{Refusal}
+use Rattle.parts.specs.declared.address.Address.{Address}
+use Rattle.parts.specs.Refusal.{refusal_number}
 use Rattle.rules.specs.State.{fresh}
 use Rattle.rules.specs.Figure.{tables}
 use Rattle.rules.specs.Refusals.{bad}
 use Rattle.rules.specs.Calls.{Answer as Verdict, Memory, memory, Outcome, Located, granted, blanked}
 use Rattle.gdp.specs.declared.state.Gdp.{Gdp}
+use Rattle.gdp.specs.declared.state.Reply.{Reply}
 use Rattle.gdp.specs.declared.state.Answer.{Answer}
 use Rattle.gdp.specs.declared.address.Outputs.{Outputs}
-use Rattle.gdp.specs.Flat.{format_at, flat, named, state_of}
+use Rattle.parts.specs.Format.{format_at}
+use Rattle.gdp.specs.Flat.{flat, named, state_of}
 
 -- 1: a number names no format, no kind of work or no pen sequence, or the state is one that the processor cannot be in
 unfoldable pub flawed : Gdp → Bool
@@ -17,6 +22,11 @@ flawed b = not (named b) || bad (state_of b)
 -- a refusal: value 0, and the bytes as handed in
 abbrev pub refusal : ℕ → Gdp → Answer
 refusal number b = record { number = number; value = 0; state = b }
+
+-- what a call with bytes b gives, as C has it: accepted, number 0, the value and the bytes of the next state
+abbrev pub as_answer : Gdp → Result Reply Refusal → Answer
+as_answer b (Ok r) = record { number = 0; value = r.value; state = r.state }
+as_answer b (Err why) = refusal (refusal_number why) b
 
 -- the definition's answer r to a call with bytes b: accepted, the bytes of its state, with what is not in use 0; refused, b.
 -- Bytes that name nothing are refused with 1
@@ -42,7 +52,12 @@ Blanks b level picture r p = Leaves b (blanked (state_of b) level (memory pictur
 abbrev pub level_of : ℕ → Bool
 level_of b = not (eqb b 0)
 
--- the address outputs
+-- the address outputs as C has them: accepted, number 0; refused, three zeros
+abbrev pub as_outputs : Result Address Refusal → Outputs
+as_outputs (Ok a) = record { number = 0; low = a.low; high = a.high; msl = a.msl }
+as_outputs (Err why) = record { number = refusal_number why; low = 0; high = 0; msl = 0 }
+
+-- the address outputs by the definition
 unfoldable pub outputs_of : Gdp → Located → Outputs
 outputs_of b l =
     cond (named b) (record { number = l.number; low = l.address.low; high = l.address.high; msl = l.address.msl })

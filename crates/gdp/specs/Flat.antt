@@ -3,20 +3,10 @@
 use Rattle.std.specs.Prelude.{ℕ, ◌+◌, ◌-◌, ◌*◌, ◌/◌, ◌%◌, min, Bool, false, cond, ◌&&◌, eqb, ltb}
 use Rattle.picture.specs.Bit.{digit, bit_at}
 use Rattle.parts.specs.declared.format.Format.{Format}
-use Rattle.parts.specs.declared.format.Format.TheVariants.{Ef9366, FmatHigh, FmatLow}
-use Rattle.parts.specs.Format.{frames}
+use Rattle.parts.specs.Format.{format_number, format_at, frames}
 use Rattle.rules.specs.Sequence.{Frames, Work, Idle, Steps, Clear, LightPen, Off, Waiting, Open, clear_open, frames_over}
 use Rattle.rules.specs.State.{Regs, Flags, State}
 use Rattle.gdp.specs.declared.state.Gdp.{Gdp}
-
--- the format's number, and the format of a number
-abbrev pub format_number : Format → ℕ
-format_number Ef9366 = 0
-format_number FmatHigh = 1
-format_number FmatLow = 2
-
-unfoldable pub format_at : ℕ → Format
-format_at n = cond (eqb n 0) Ef9366 (cond (eqb n 1) FmatHigh FmatLow)
 
 -- the number of the pen's sequence, and the sequence of a number
 abbrev pub light_pen_number : LightPen → ℕ

@@ -5,36 +5,46 @@
 // 0 and 7 not in use.
 ghost use Rattle.std.specs.Prelude.{◌≡◌, not, ltb, leb, ◌+◌, ◌*◌, ◌/◌, ◌%◌, ◌<◌, ◌≤◌};
 ghost use Rattle.picture.specs.Bit.{digit, bit_at, with_bit};
-ghost use Rattle.parts.specs.Format.{frames};
+ghost use Rattle.parts.specs.Format.{format_number, format_at, frames};
 ghost use Rattle.rules.specs.Sequence.{no_sequence, light_pen_open};
-ghost use Rattle.gdp.specs.Flat.{format_number, format_at, light_pen_at, format_in, work_in, over_in, light_pen_in};
-ghost use Rattle.gdp.specs.Working.Bits.{clear_open_in, stray_light_pen, stray_work, put_work, put_light_pen, raise_flag, signal_bits, in_use, modes_fall, modes_rise, signals_fall};
+ghost use Rattle.gdp.specs.Flat.{light_pen_at, format_in, work_in, over_in, light_pen_in};
+ghost use Rattle.gdp.specs.Working.Bits.{clear_open_in, stray_light_pen, stray_work, work_bits, put_work, light_pen_bits, put_light_pen, flag_bit, raise_flag, signal_bits, in_use, modes_fall, modes_rise, signals_fall};
 
 use parts::format::{Format, frames_of};
 use picture::dot::{bit_at, with_bit};
 
-// What runs, with bits 5 to 7.
-pub(crate) const IDLE: u8 = 0;
+// What runs: bits 3 to 5 of `modes`.
+#[derive(Clone, Copy)]
+pub(crate) enum Work {
+    Idle = 0,
+    Steps = 1,
+    Clear = 2,
+    Fill = 6,
+}
 
-pub(crate) const STEPS: u8 = 1;
+// The light pen's sequence: bits 2 and 3 of `signals`.
+#[derive(Clone, Copy)]
+pub(crate) enum LightPen {
+    Off = 0,
+    Waits = 1,
+    Open = 2,
+}
 
-pub(crate) const CLEAR: u8 = 2;
+// The flags of STATUS, each by its bit there, which is that of its mask in CTRL1 too.
+#[derive(Clone, Copy)]
+pub(crate) enum Flag {
+    LightPen = 4,
+    Vb = 5,
+    Ready = 6,
+}
 
-pub(crate) const FILL: u8 = 6;
-
-// The light pen's sequence.
-pub(crate) const LIGHT_PEN_OFF: u8 = 0;
-
-pub(crate) const LIGHT_PEN_WAITS: u8 = 1;
-
-pub(crate) const LIGHT_PEN_OPEN: u8 = 2;
-
-// The flags of STATUS, by their bits.
-pub(crate) const LIGHT_PEN_FLAG: u8 = 4;
-
-pub(crate) const VB_FLAG: u8 = 5;
-
-pub(crate) const READY_FLAG: u8 = 6;
+impl Flag {
+    pub(crate) fn bit(self) -> u8
+        ensures { (result ≡ flag_bit self) × (result < 8) }
+    {
+        self as u8
+    }
+}
 
 pub(crate) fn is_no_format(modes: u8) -> bool
     ensures { result ≡ not (ltb (format_in modes) 3) }
@@ -43,6 +53,7 @@ pub(crate) fn is_no_format(modes: u8) -> bool
 }
 
 // The number names no light pen sequence, or VB is high inside the sequence's frame.
+#[tactic(auto, using(crate::proofs::Bytes::stray_light_pen_lem))]
 pub(crate) fn is_stray_light_pen(signals: u8) -> bool
     ensures { result ≡ stray_light_pen signals }
 {
@@ -59,6 +70,8 @@ pub(crate) fn is_stray_work(modes: u8, vb: bool) -> bool
     false
 }
 
+// The format in the lowest three bits. That they name one is refusal 1's affair, so `TryFrom` would test it once more.
+#[tactic(auto, unfolding(parts::specs::Format::format_at))]
 pub fn format_of(modes: u8) -> Format
     ensures { result ≡ format_at (format_in modes) }
 {
@@ -73,13 +86,11 @@ pub fn format_of(modes: u8) -> Format
 pub(crate) fn modes_of(f: Format) -> u8
     ensures { result ≡ format_number f }
 {
-    match f {
-        Format::Ef9366 => 0,
-        Format::FmatHigh => 1,
-        Format::FmatLow => 2,
-    }
+    u8::from(f)
 }
 
+// A number, not a `Work`: the byte may name none, and the clears are told apart by a bit of their own, so that a reading as `Work` would
+// have to be undone in its callers.
 pub(crate) fn work_number(modes: u8) -> u8
     ensures { result ≡ work_in modes }
 {
@@ -113,16 +124,18 @@ pub(crate) fn is_vb_high(signals: u8) -> bool
     bit_at(signals, 1)
 }
 
+#[tactic(auto, using(crate::proofs::Bytes::light_pen_off_at))]
 pub(crate) fn is_light_pen_off(signals: u8) -> bool
     ensures { result ≡ no_sequence (light_pen_at (light_pen_in signals)) }
 {
-    signals / 4 % 4 == LIGHT_PEN_OFF
+    signals / 4 % 4 == LightPen::Off as u8
 }
 
+#[tactic(auto, using(crate::proofs::Bytes::light_pen_open_at))]
 pub(crate) fn is_light_pen_open(signals: u8) -> bool
     ensures { result ≡ light_pen_open (light_pen_at (light_pen_in signals)) }
 {
-    LIGHT_PEN_OPEN <= signals / 4 % 4
+    LightPen::Open as u8 <= signals / 4 % 4
 }
 
 // A bit's weight where it is high.
@@ -153,11 +166,10 @@ pub(crate) fn without_flags(signals: u8) -> u8
     signals % 16
 }
 
-pub(crate) fn with_work(modes: u8, work: u8) -> u8
-    requires { work < 16 }
-    ensures { result ≡ put_work work modes }
+pub(crate) fn with_work(modes: u8, work: Work) -> u8
+    ensures { result ≡ put_work (work_bits work) modes }
 {
-    modes % 8 + 8 * work
+    modes % 8 + 8 * work as u8
 }
 
 // A clear's byte with bit 7 made 0 where it is not in use.
@@ -170,11 +182,10 @@ pub(crate) fn clear_modes(modes: u8) -> u8
     modes
 }
 
-pub(crate) fn with_light_pen(signals: u8, pen: u8) -> u8
-    requires { pen < 3 }
-    ensures { result ≡ put_light_pen pen signals }
+pub(crate) fn with_light_pen(signals: u8, pen: LightPen) -> u8
+    ensures { result ≡ put_light_pen (light_pen_bits pen) signals }
 {
-    signals % 4 + 4 * pen + signals / 16 * 16
+    signals % 4 + 4 * pen as u8 + signals / 16 * 16
 }
 
 pub(crate) fn with_vb(signals: u8, level: bool) -> u8
@@ -184,12 +195,11 @@ pub(crate) fn with_vb(signals: u8, level: bool) -> u8
 }
 
 // A flag raised where its mask lets it.
-pub(crate) fn with_flag(signals: u8, flag: u8, mask: bool) -> u8
-    requires { flag < 8 }
-    ensures { result ≡ raise_flag flag mask signals }
+pub(crate) fn with_flag(signals: u8, flag: Flag, mask: bool) -> u8
+    ensures { result ≡ raise_flag (flag_bit flag) mask signals }
 {
     if mask {
-        with_bit(signals, flag, true)
+        with_bit(signals, flag.bit(), true)
     } else {
         signals
     }
@@ -199,7 +209,7 @@ pub(crate) fn with_flag(signals: u8, flag: u8, mask: bool) -> u8
 pub(crate) fn modes_at_fall(modes: u8) -> u8
     ensures { result ≡ modes_fall modes }
 {
-    if modes / 8 % 4 == CLEAR {
+    if modes / 8 % 4 == Work::Clear as u8 {
         return with_bit(modes, 6, true);
     }
     modes
@@ -218,8 +228,8 @@ pub(crate) fn modes_at_rise(modes: u8) -> u8
 pub(crate) fn signals_at_fall(signals: u8) -> u8
     ensures { result ≡ signals_fall signals }
 {
-    if signals / 4 % 4 == LIGHT_PEN_WAITS {
-        return with_light_pen(with_vb(signals, false), LIGHT_PEN_OPEN);
+    if signals / 4 % 4 == LightPen::Waits as u8 {
+        return with_light_pen(with_vb(signals, false), LightPen::Open);
     }
     with_vb(signals, false)
 }

@@ -4,14 +4,16 @@ ghost use Rattle.rules.specs.State.{with_regs, with_flags, flags};
 ghost use Rattle.rules.specs.Registers.{light_pen_read};
 ghost use Rattle.rules.specs.Calls.{read_out};
 ghost use Rattle.gdp.specs.Flat.{state_of};
-ghost use Rattle.gdp.specs.Calls.{answer_of};
+ghost use Rattle.gdp.specs.Calls.{as_answer, answer_of};
 ghost use Rattle.gdp.specs.Working.Makes.{Makes};
 
 use crate::bits::without_flags;
-use crate::state::{Answer, Gdp, accepted, refused};
+use crate::state::{Gdp, Reply, accepted};
+use parts::refusal::Refusal;
 
 impl Gdp {
     // Reading STATUS clears the flags.
+    #[tactic(auto, using(crate::proofs::Bytes::flags_put), unfolding(crate::specs::Flat::flat))]
     fn flags_read(mut self) -> Gdp
         ensures { Makes (with_flags (flags false false false)) self result }
     {
@@ -20,6 +22,7 @@ impl Gdp {
     }
 
     // Reading XLP or YLP clears the lowest bit of XLP.
+    #[tactic(auto, unfolding(rules::specs::Registers::light_pen_read, crate::specs::Flat::flat))]
     fn light_pen_read(mut self) -> Gdp
         ensures { Makes (λ s. with_regs (light_pen_read s.regs) s) self result }
     {
@@ -27,16 +30,14 @@ impl Gdp {
         self
     }
 
-    // Reads the register at an address: its byte is the value. Refused with 1 or 4.
-    pub fn read(self, address: u8) -> Answer
-        ensures { result ≡ answer_of self (read_out (state_of self) address) }
+    // Reads the register at an address: its byte is the value. Refused with 1 or 4. The addresses are the sheet's own numbers: as an enum
+    // each would be named once and told apart once more, which is no plainer.
+    #[tactic(auto, using(crate::proofs::Uses::reads), unfolding(crate::proofs::Uses::reading))]
+    pub fn read(self, address: u8) -> Result<Reply, Refusal>
+        ensures { as_answer self result ≡ answer_of self (read_out (state_of self) address) }
     {
-        // `is_bad` in its two parts, which are compiled into the call.
-        if self.is_stray() {
-            return refused(1, self);
-        }
-        if self.is_stepping() && self.is_bad_step() {
-            return refused(1, self);
+        if self.is_bad() {
+            return Err(Refusal::BadState);
         }
         let next = self.tidy();
         match address {
@@ -52,7 +53,7 @@ impl Gdp {
             0xB => accepted(self.y % 256, next),
             0xC => accepted(self.xlp as u16, next.light_pen_read()),
             0xD => accepted(self.ylp as u16, next.light_pen_read()),
-            _ => refused(4, self),
+            _ => Err(Refusal::BadAddress),
         }
     }
 }

@@ -1,15 +1,17 @@
 // The state of the processor in sixteen bytes, as C and Rust hand it over, and what a call gives back.
-ghost use Rattle.std.specs.Prelude.{◌≡◌, true, false};
+ghost use Rattle.std.specs.Prelude.{◌≡◌, true, false, Ok};
 ghost use Rattle.rules.specs.Sequence.{Idle, Steps, Clear, no_frames, Off, Waiting};
-ghost use Rattle.rules.specs.State.{fresh, with_work, with_light_pen, ready_raises, vb_raises, light_pen_raises};
+ghost use Rattle.rules.specs.State.{fresh, with_work, with_light_pen};
 ghost use Rattle.gdp.specs.Flat.{flat, state_of, named};
-ghost use Rattle.gdp.specs.Working.Makes.{Makes};
+ghost use Rattle.gdp.specs.Calls.{as_answer};
+ghost use Rattle.gdp.specs.Working.Makes.{Makes, raises};
 
 use crate::bits::{
-    CLEAR, FILL, IDLE, LIGHT_PEN_FLAG, LIGHT_PEN_OFF, LIGHT_PEN_WAITS, READY_FLAG, STEPS, VB_FLAG,
-    clear_modes, in_use, modes_of, with_flag, with_light_pen, with_work, work_number,
+    Flag, LightPen, Work, clear_modes, in_use, modes_of, with_flag, with_light_pen, with_work,
+    work_number,
 };
 use parts::format::Format;
+use parts::refusal::Refusal;
 use picture::dot::bit_at;
 
 // X and Y; the cycles that the stepping command has used; the registers; the code of the command that steps; what runs and
@@ -33,7 +35,20 @@ pub struct Gdp {
     pub signals: u8,
 }
 
-// The refusal number or 0, the value, and the next state.
+// What an accepted call gives: a value, and the next state.
+#[derive(Clone, Copy)]
+pub struct Reply {
+    pub value: u16,
+    pub state: Gdp,
+}
+
+pub(crate) fn accepted(value: u16, state: Gdp) -> Result<Reply, Refusal>
+    ensures { result ≡ Ok (record { value = value; state = state }) }
+{
+    Ok(Reply { value, state })
+}
+
+// What a call gives, as C has it: the refusal number or 0, the value, and the next state.
 #[repr(C)]
 #[derive(Clone, Copy)]
 pub struct Answer {
@@ -42,29 +57,29 @@ pub struct Answer {
     pub state: Gdp,
 }
 
-// What a refusal gives back: value 0 and the state as handed in.
-pub(crate) fn refused(number: u8, state: Gdp) -> Answer
-    ensures { result ≡ record { number = number; value = 0; state = state } }
-{
-    Answer {
-        number: number,
-        value: 0,
-        state: state,
-    }
-}
-
-pub(crate) fn accepted(value: u16, state: Gdp) -> Answer
-    ensures { result ≡ record { number = 0; value = value; state = state } }
-{
-    Answer {
-        number: 0,
-        value: value,
-        state: state,
+impl Answer {
+    // A refusal has value 0 and the state as handed in.
+    pub fn of(state: Gdp, outcome: Result<Reply, Refusal>) -> Answer
+        ensures { result ≡ as_answer state outcome }
+    {
+        match outcome {
+            Ok(Reply { value, state }) => Answer {
+                number: 0,
+                value,
+                state,
+            },
+            Err(why) => Answer {
+                number: u8::from(why),
+                value: 0,
+                state,
+            },
+        }
     }
 }
 
 impl Gdp {
     // The fresh state of a format.
+    #[tactic(auto, unfolding(crate::proofs::Uses::fresh_bytes))]
     pub fn fresh(format: Format) -> Gdp
         ensures { result ≡ flat (fresh format) }
     {
@@ -85,22 +100,27 @@ impl Gdp {
         }
     }
 
+    // That the bytes name something is a condition here, in the next two and in two of blanking.rt: as a type it would be put on and
+    // taken off at each of their sixteen calls, and would spare no line.
+
     // Nothing runs, and what is not in use is 0.
+    #[tactic(auto, using(crate::proofs::Uses::puts), unfolding(crate::proofs::Uses::bytes))]
     pub(crate) fn idle(mut self) -> Gdp
         ensures { named self ≡ true → result ≡ flat (with_work Idle (state_of self)) }
     {
         self.code = 0;
         self.done = 0;
-        self.modes = with_work(self.modes, IDLE);
+        self.modes = with_work(self.modes, Work::Idle);
         self.signals = in_use(self.signals);
         self
     }
 
     // The command steps, and what is not in use is 0.
+    #[tactic(auto, using(crate::proofs::Uses::puts), unfolding(crate::proofs::Uses::bytes))]
     pub(crate) fn stepping(mut self) -> Gdp
         ensures { named self ≡ true → result ≡ flat (with_work (Steps self.code self.done) (state_of self)) }
     {
-        self.modes = with_work(self.modes, STEPS);
+        self.modes = with_work(self.modes, Work::Steps);
         self.signals = in_use(self.signals);
         self
     }
@@ -110,10 +130,10 @@ impl Gdp {
         ensures { named self ≡ true → result ≡ flat (state_of self) }
     {
         let work = work_number(self.modes);
-        if work == IDLE {
+        if work == Work::Idle as u8 {
             return self.idle();
         }
-        if work == STEPS {
+        if work == Work::Steps as u8 {
             return self.stepping();
         }
         self.code = 0;
@@ -129,7 +149,7 @@ impl Gdp {
     {
         self.code = code;
         self.done = 0;
-        self.modes = with_work(self.modes, STEPS);
+        self.modes = with_work(self.modes, Work::Steps);
         self
     }
 
@@ -140,46 +160,35 @@ impl Gdp {
         self.code = 0;
         self.done = 0;
         if fill {
-            self.modes = with_work(self.modes, FILL);
+            self.modes = with_work(self.modes, Work::Fill);
             return self;
         }
-        self.modes = with_work(self.modes, CLEAR);
+        self.modes = with_work(self.modes, Work::Clear);
         self
     }
 
+    #[tactic(auto, using(crate::proofs::Bytes::light_pen_put), unfolding(crate::specs::Flat::flat))]
     pub(crate) fn light_pen_waits(mut self) -> Gdp
         ensures { Makes (with_light_pen Waiting) self result }
     {
-        self.signals = with_light_pen(self.signals, LIGHT_PEN_WAITS);
+        self.signals = with_light_pen(self.signals, LightPen::Waits);
         self
     }
 
+    #[tactic(auto, using(crate::proofs::Bytes::light_pen_put), unfolding(crate::specs::Flat::flat))]
     pub(crate) fn light_pen_ends(mut self) -> Gdp
         ensures { Makes (with_light_pen Off) self result }
     {
-        self.signals = with_light_pen(self.signals, LIGHT_PEN_OFF);
+        self.signals = with_light_pen(self.signals, LightPen::Off);
         self
     }
 
     // A signal rises: its flag is set while its bit of CTRL1 is high.
-    pub(crate) fn ready_raised(mut self) -> Gdp
-        ensures { Makes ready_raises self result }
+    pub(crate) fn raised(mut self, flag: Flag) -> Gdp
+        ensures { Makes (raises flag) self result }
     {
-        self.signals = with_flag(self.signals, READY_FLAG, bit_at(self.ctrl1, 6));
-        self
-    }
-
-    pub(crate) fn vb_raised(mut self) -> Gdp
-        ensures { Makes vb_raises self result }
-    {
-        self.signals = with_flag(self.signals, VB_FLAG, bit_at(self.ctrl1, 5));
-        self
-    }
-
-    pub(crate) fn light_pen_raised(mut self) -> Gdp
-        ensures { Makes light_pen_raises self result }
-    {
-        self.signals = with_flag(self.signals, LIGHT_PEN_FLAG, bit_at(self.ctrl1, 4));
+        let mask = bit_at(self.ctrl1, flag.bit());
+        self.signals = with_flag(self.signals, flag, mask);
         self
     }
 }

@@ -8,6 +8,7 @@ use crate::state::Gdp;
 use parts::format::{height_of, width_of};
 
 impl Gdp {
+    #[tactic(auto, unfolding(rules::specs::Status::outside, crate::specs::Flat::state_of))]
     fn is_outside(self) -> bool
         ensures { result ≡ outside (state_of self) }
     {
@@ -15,6 +16,7 @@ impl Gdp {
         (width_of(f) <= self.x) | (height_of(f) <= self.y)
     }
 
+    #[tactic(auto, unfolding(crate::proofs::Uses::flagging))]
     pub(crate) fn status(self) -> u8
         ensures { result ≡ status (state_of self) }
     {

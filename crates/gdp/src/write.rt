@@ -4,11 +4,13 @@ ghost use Rattle.rules.specs.Registers.{stored};
 ghost use Rattle.rules.specs.Refusals.{no_register, read_only};
 ghost use Rattle.rules.specs.Calls.{written};
 ghost use Rattle.gdp.specs.Flat.{state_of, regs_of, put_regs};
-ghost use Rattle.gdp.specs.Calls.{answer_of};
+ghost use Rattle.gdp.specs.Calls.{as_answer, answer_of};
 
-use crate::state::{Answer, Gdp, accepted, refused};
+use crate::state::{Gdp, Reply, accepted};
+use parts::refusal::Refusal;
 
 // Address 4, 6, E or F, or above 15.
+#[tactic(auto, unfolding(rules::specs::Refusals::no_register))]
 fn is_no_register(address: u8) -> bool
     ensures { result ≡ no_register address }
 {
@@ -16,6 +18,7 @@ fn is_no_register(address: u8) -> bool
 }
 
 // XLP and YLP.
+#[tactic(auto, unfolding(rules::specs::Refusals::read_only))]
 fn is_read_only(address: u8) -> bool
     ensures { result ≡ read_only address }
 {
@@ -23,7 +26,8 @@ fn is_read_only(address: u8) -> bool
 }
 
 impl Gdp {
-    // A byte stored at an address, unused bits dropped.
+    // A byte stored at an address, one of the sheet's numbers as in `read`, unused bits dropped.
+    #[tactic(auto, unfolding(rules::specs::Registers::stored))]
     fn stored(mut self, address: u8, value: u8) -> Gdp
         ensures { result ≡ put_regs (stored (regs_of self) address value) self }
     {
@@ -69,24 +73,21 @@ impl Gdp {
     }
 
     // Writes a byte to the register at an address; at 0 it is a command. Refused with 1, 4, 5 or 6.
-    pub fn write(self, address: u8, value: u8) -> Answer
-        ensures { result ≡ answer_of self (written (state_of self) address value) }
+    #[tactic(auto, using(crate::proofs::Uses::writes), unfolding(crate::proofs::Uses::writing))]
+    pub fn write(self, address: u8, value: u8) -> Result<Reply, Refusal>
+        ensures { as_answer self result ≡ answer_of self (written (state_of self) address value) }
     {
-        // `is_bad` in its two parts, which are compiled into the call.
-        if self.is_stray() {
-            return refused(1, self);
-        }
-        if self.is_stepping() && self.is_bad_step() {
-            return refused(1, self);
+        if self.is_bad() {
+            return Err(Refusal::BadState);
         }
         if is_no_register(address) {
-            return refused(4, self);
+            return Err(Refusal::BadAddress);
         }
         if is_read_only(address) {
-            return refused(5, self);
+            return Err(Refusal::ReadOnly);
         }
         if self.is_busy() {
-            return refused(6, self);
+            return Err(Refusal::Busy);
         }
         if address != 0x0 {
             return accepted(0, self.idle().stored(address, value));

@@ -13,7 +13,7 @@ use borrow.Author.Tests.{eqb-false}
 use Rattle.basis.proofs.Cases.{split}
 use Rattle.motion.specs.Position.{moved}
 use Rattle.motion.specs.Character.{scale, scale_p, scale_q, character_of, block_of, body_cycles, u_of, v_of, column_of, row_of, lying, along, laid, body_way, body_end}
-use Rattle.motion.specs.Working.Cells.{Sized}
+use Rattle.motion.specs.Working.Cells.{body_by, Sized}
 use Rattle.motion.specs.declared.position.Spot.{Spot}
 use Rattle.motion.specs.declared.character.Body.{Body}
 use Rattle.motion.specs.declared.character.Lie.{Lie}
@@ -61,22 +61,33 @@ pub block_cycles : (csize : ℕ) → body_cycles (block_of csize) ≡ 16 * scale
 unfolding body_cycles block_of
 block_cycles csize = product 4 4 (scale_p csize) (scale_q csize)
 
--- one to eight times Q rows are a size
-sized : (b : Body) (k : ℕ) → 0 < b.p → b.p ≤ 16 → 0 < b.q → b.q ≤ 16 → b.rows ≡ k * b.q → b.q ≤ b.rows → b.rows ≤ 8 * b.q → Sized b
-sized b k p0 p16 q0 q16 rows least most =
-    let whole : b.rows / b.q ≡ k = rw (rows, ← add-zero (k * b.q)) (digits_div k q0) in
-    record { p0 = p0; p16 = p16; q0 = q0; q16 = q16; rows0 = omega arith; rows128 = omega arith; glyph_rows = rw whole rows }
-
 -- of any byte CSIZE
 module _ (csize : ℕ) (h : csize < 256) where
+  -- one to eight times Q rows are a size, however wide
+  pub body_sized : (wide high : ℕ) → 0 < high → high ≤ 8 → Sized (body_by csize wide high)
+  body_sized wide high some most =
+      let q = scale_q csize in
+      let least : 1 * q ≤ high * q = mul-le-mul {n₁ = 1} {m₁ = q} {n₂ = high} {m₂ = q} some (le_refl q) in
+      let top : high * q ≤ 8 * q = mul-le-mul {n₁ = high} {m₁ = q} {n₂ = 8} {m₂ = q} most (le_refl q) in
+      let whole : high * q / q ≡ high = rw (← add-zero (high * q)) (digits_div high (q_some csize)) in
+      record {
+        p0 = p_some csize;
+        p16 = p_most csize h;
+        q0 = q_some csize;
+        q16 = q_most csize h;
+        rows0 = omega (arith, q_some csize);
+        rows128 = omega (arith, q_most csize h);
+        glyph_rows = rw whole refl;
+      }
+
   -- its bodies are sized
   pub character_sized : Sized (character_of csize)
   unfolding character_of
-  character_sized = sized (character_of csize) 8 (p_some csize) (p_most csize h) (q_some csize) (q_most csize h) refl (omega arith) (omega arith)
+  character_sized = body_sized 6 8 (omega arith) (omega arith)
 
   pub block_sized : Sized (block_of csize)
   unfolding block_of
-  block_sized = sized (block_of csize) 4 (p_some csize) (p_most csize h) (q_some csize) (q_most csize h) refl (omega arith) (omega arith)
+  block_sized = body_sized 4 4 (omega arith) (omega arith)
 
   -- the most cycles
   pub character_most : body_cycles (character_of csize) ≤ 12288

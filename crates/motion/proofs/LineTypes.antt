@@ -16,19 +16,24 @@ use Rattle.motion.specs.Working.Masks.{dashed, Repeats}
 use Rattle.motion.specs.declared.line_type.LineType.{LineType}
 
 -- the table, as the code has it
-abbrev pub periods : List ℕ
-periods = 1 ∷ 4 ∷ 8 ∷ 16 ∷ []
+abbrev pub line_types : List LineType
+line_types =
+    record { period = 1; mask = 0x0001 }
+    ∷ record { period = 4; mask = 0x0003 }
+    ∷ record { period = 8; mask = 0x000f }
+    ∷ record { period = 16; mask = 0x33ff }
+    ∷ []
 
-abbrev pub masks : List ℕ
-masks = 0x0001 ∷ 0x0003 ∷ 0x000f ∷ 0x33ff ∷ []
+-- entry t of the table
+abbrev none : LineType
+none = record { period = 0; mask = 0 }
+
+abbrev pub entry : ℕ → LineType
+entry t = get_or line_types t none
 
 -- the periods are these powers of two
 abbrev powers : List ℕ
 powers = 0 ∷ 2 ∷ 3 ∷ 4 ∷ []
-
--- entry t of the table
-abbrev pub entry : ℕ → LineType
-entry t = record { period = get_or periods t 0; mask = get_or masks t 0 }
 
 -- bit j of a mask is dot j of the period
 abbrev bit_right : ℕ → ℕ → Bool → Bool
@@ -36,23 +41,23 @@ bit_right m j b = beq (bit_at j m) b
 
 module _ (t : ℕ) (h : t < 4) where
   -- the periods are the document's
-  pub period_is : get_or periods t 0 ≡ length (period t)
-  period_is = eqb→eq (get_or periods t 0) (length (period t)) (at (λ t p. eqb p (length (period t))) 0 periods tt t h)
+  pub period_is : (entry t).period ≡ length (period t)
+  period_is = eqb→eq (entry t).period (length (period t)) (at (λ t e. eqb e.period (length (period t))) none line_types tt t h)
 
   -- and so is each dot of each
-  pub mask_is : (j : ℕ) → j < length (period t) → bit_at j (get_or masks t 0) ≡ get_or (period t) j true
+  pub mask_is : (j : ℕ) → j < length (period t) → bit_at j (entry t).mask ≡ get_or (period t) j true
   mask_is j l =
-      beq_eq (bit_at j (get_or masks t 0)) (get_or (period t) j true)
-      (at (bit_right (get_or masks t 0)) true (period t) (at (λ t m. every (bit_right m) 0 (period t)) 0 masks tt t h) j l)
+      beq_eq (bit_at j (entry t).mask) (get_or (period t) j true)
+      (at (bit_right (entry t).mask) true (period t) (at (λ t e. every (bit_right e.mask) 0 (period t)) none line_types tt t h) j l)
 
   -- every period is a power of two, at most 16
   pub repeats : Repeats (entry t)
   repeats =
       record {
         power =
-            let test = at (λ t p. eqb p (2 ^ get_or powers t 0)) 0 periods tt t h in
-            (get_or powers t 0, eqb→eq (get_or periods t 0) (2 ^ get_or powers t 0) test);
-        short = leb→le (get_or periods t 0) 16 (at (λ t p. leb p 16) 0 periods tt t h);
+            let test = at (λ t e. eqb e.period (2 ^ get_or powers t 0)) none line_types tt t h in
+            (get_or powers t 0, eqb→eq (entry t).period (2 ^ get_or powers t 0) test);
+        short = leb→le (entry t).period 16 (at (λ t e. leb e.period 16) none line_types tt t h);
       }
 
 -- the table has the document's line types

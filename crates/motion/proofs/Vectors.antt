@@ -4,10 +4,10 @@
 use mathlib.Core.Path.{◌≡◌, refl, sym, ap, ◌∙◌}
 use mathlib.Core.Bool.{Bool, true, false, cond, ◌||◌}
 use Prim.Native.Nat.{ℕ, ◌+◌, ◌-◌, ◌*◌, ◌/◌, ◌%◌, ◌<◌, ◌≤◌, max, min}
-use native.Mathlib.Nat.{mul-le-mul, le_of_lt, min-eq_left, min-eq_right, max-eq_left, max-eq_right}
+use native.Mathlib.Nat.{mul-le-mul, min-eq_left}
 use native.Mathlib.Omega.{arith}
 use lib.Dec.{eqb, ltb}
-use borrow.Author.Tests.{lt-ltb, le-ltb, ltb-true, ltb-false}
+use borrow.Author.Tests.{ltb-true, ltb-false}
 use Rattle.picture.specs.Bit.{bit_at}
 use Rattle.motion.specs.declared.vector.Line.{Line}
 use Rattle.motion.specs.declared.vector.Stroke.{Stroke}
@@ -125,24 +125,6 @@ module _ (l : Line) where
           from l.down y (along_y l i) (along_y l j) hy grows.1 (omega (arith, most.1)),
         )
 
-  -- a stroke that is set on dot i
-  pub on_here : (x y i : ℕ) {e : ℕ} → i ≤ l.long → x < 4096 → y < 4096 → e ≡ error_of l.long l.short i
-      → OnDot l (behind x (vector_x l i)) (behind y (vector_y l i)) (record { x = x; y = y; i = i; error = e })
-  on_here x y i {e} h hx hy he =
-      let now : min i l.long ≡ i = min-eq_left h in
-      record {
-        x = rw now (sym (ahead_behind x (vector_x l i) hx));
-        y = rw now (sym (ahead_behind y (vector_y l i) hy));
-        error = rw now he;
-      }
-
-  -- a stroke past the last dot stays
-  pub on_last : (x y : ℕ) (s : Stroke) → l.long ≤ s.i → OnDot l x y s
-      → OnDot l x y (record { x = s.x; y = s.y; i = s.i + 1; error = s.error })
-  on_last x y s h on =
-      let same : min (s.i + 1) l.long ≡ min s.i l.long = omega arith in
-      record { x = rw same on.x; y = rw same on.y; error = rw same on.error }
-
   -- a stroke before it goes on to the next dot
   pub on_next : (s : Stroke) {step e u v : ℕ} → Lengths l → s.i < l.long → s.error ≡ error_of l.long l.short s.i
       → step ≡ (s.error + 2 * l.short) / (2 * l.long) → e ≡ (s.error + 2 * l.short) % (2 * l.long)
@@ -157,10 +139,6 @@ module _ (l : Line) where
         y = hv ∙ rw (then, on.y, now, hs, err) (sym next.1);
         error = he ∙ rw (then, err) (sym (error_next l.long l.short s.i));
       }
-
--- bit 3 as the code tests it
-pub bit_three : (c : ℕ) → bit_at 3 c ≡ eqb (c / 8 % 2) 1
-bit_three c = let e : c / 2 / 2 / 2 ≡ c / 8 = omega arith in rw e
 
 -- the smaller length is that of X where the line is steep
 sides : (X Y : ℕ) (b : Bool) → ltb X Y ≡ b → (cond b (min X Y) (max X Y) ≡ X) × (cond b (max X Y) (min X Y) ≡ Y)
@@ -230,17 +208,3 @@ module _ (c dx dy : ℕ) where
       → (along_x (line_of c dx dy) i ≡ along_x (line_of d dx dy) i) × (along_y (line_of c dx dy) i ≡ along_y (line_of d dx dy) i)
   unfolding along_x along_y line_of
   mirrored d i hx hy = (simp (hx, hy), simp (hx, hy))
-
-  -- the line as the code puts it together
-  module _ {x y : ℕ} {left down : Bool} (hx : x ≡ length_x c dx dy) (hy : y ≡ length_y c dx dy) (hl : left ≡ minus_x c) (hd : down ≡ minus_y c) where
-    pub line_steep : x < y → record { long = y; short = x; steep = true; left = left; down = down } ≡ line_of c dx dy
-    unfolding line_of
-    line_steep h =
-        let l : length_x c dx dy < length_y c dx dy = omega arith in
-        simp (hx, hy, hl, hd, lt-ltb _ _ l, max-eq_right (le_of_lt l), min-eq_left (le_of_lt l))
-
-    pub line_flat : y ≤ x → record { long = x; short = y; steep = false; left = left; down = down } ≡ line_of c dx dy
-    unfolding line_of
-    line_flat h =
-        let l : length_y c dx dy ≤ length_x c dx dy = omega arith in
-        simp (hx, hy, hl, hd, le-ltb _ _ l, max-eq_left l, min-eq_right l)

@@ -6,6 +6,5 @@
 pub mod character;
 pub mod glyph;
 pub mod line_type;
-pub mod number;
 pub mod position;
 pub mod vector;

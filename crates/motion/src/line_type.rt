@@ -10,19 +10,30 @@ pub struct LineType {
     pub mask: u16,
 }
 
-const PERIOD: [u16; 4] = [1, 4, 8, 16];
-
-const MASK: [u16; 4] = [0x0001, 0x0003, 0x000f, 0x33ff];
+const LINE_TYPES: [LineType; 4] = [
+    LineType {
+        period: 1,
+        mask: 0x0001,
+    },
+    LineType {
+        period: 4,
+        mask: 0x0003,
+    },
+    LineType {
+        period: 8,
+        mask: 0x000f,
+    },
+    LineType {
+        period: 16,
+        mask: 0x33ff,
+    },
+];
 
 // The line type in bits 0 and 1 of CTRL2, looked up once for a run of dots.
 pub fn line_type(ctrl2: u8) -> LineType
     ensures { Repeats result × ((i : ℕ) → dashed result i ≡ line_on ctrl2 i) }
 {
-    let t = (ctrl2 % 4) as usize;
-    LineType {
-        period: PERIOD[t],
-        mask: MASK[t],
-    }
+    LINE_TYPES[ctrl2 as usize % 4]
 }
 
 // Whether dot i of a vector is on. The period is a power of two, so its remainder is a mask.

@@ -1,11 +1,10 @@
 // How a vector steps: by an error term, so that no dot costs a division.
-ghost use Rattle.std.specs.Prelude.{◌≡◌, cond, ℕ, ◌+◌, ◌*◌, ◌/◌, ◌%◌, ◌≤◌, ◌<◌, ltb};
+ghost use Rattle.std.specs.Prelude.{◌≡◌, cond, ℕ, ◌+◌, ◌*◌, ◌/◌, ◌%◌, ◌≤◌, ◌<◌, ◌||◌, eqb, ltb};
 ghost use Rattle.picture.specs.Bit.{bit_at};
 ghost use Rattle.motion.specs.Position.{behind};
-ghost use Rattle.motion.specs.Vector.{length_x, length_y, minus_x, minus_y, line_of, vector_x, vector_y};
+ghost use Rattle.motion.specs.Vector.{line_of, vector_x, vector_y};
 ghost use Rattle.motion.specs.Working.Strokes.{error_of, Lengths, OnDot};
 
-use crate::number::larger;
 use crate::position::advance;
 
 // The larger length and the smaller, whether Y is the longer axis, and whether X and Y fall.
@@ -18,7 +17,15 @@ pub struct Line {
     pub down: bool,
 }
 
-// The place of the next dot, its number, and its error term.
+// A vector: its line, of lengths that a code can give.
+#[derive(Clone, Copy)]
+pub struct Vector {
+    pub line: Line,
+    pub ghost lengths: { Lengths line },
+}
+
+// The place of the next dot, its number, and its error term. That the number is one of the vector's is said in each contract: a struct
+// of both would have to say of each step that the vector stays, which is no plainer.
 #[derive(Clone, Copy)]
 pub struct Stroke {
     pub x: u16,
@@ -27,7 +34,7 @@ pub struct Stroke {
     pub error: u16,
 }
 
-// The error term one dot further, and by how much the shorter axis steps.
+// The error term one dot further, and by how much the shorter axis steps: a distance, none or one.
 #[derive(Clone, Copy)]
 pub struct Hop {
     pub step: u16,
@@ -45,92 +52,42 @@ fn given(code: u8, own: u8, both: u8, short: u8) -> u8
     }
 }
 
-fn length_x(code: u8, dx: u8, dy: u8) -> u8
-    ensures { result ≡ length_x code dx dy }
+// The length of a code along an axis: none in the two directions that go along the other axis only.
+fn length<const THERE: u8, const BACK: u8>(code: u8, own: u8, both: u8, short: u8) -> u8
+    ensures { result ≡ cond (eqb (code % 8) THERE || eqb (code % 8) BACK) 0 (cond (ltb code 0x80) (cond (bit_at 3 code) both own) short) }
 {
     let d = code % 8;
-    if (d == 2) | (d == 4) {
+    if (d == THERE) | (d == BACK) {
         return 0;
     }
-    given(code, dx, larger(dx, dy), code / 32 % 4)
+    given(code, own, both, short)
 }
 
-fn length_y(code: u8, dx: u8, dy: u8) -> u8
-    ensures { result ≡ length_y code dx dy }
+// Whether a code falls along an axis: in two directions of that axis' own, and in direction 7.
+fn falls<const A: u8, const B: u8>(code: u8) -> bool
+    ensures { result ≡ eqb (code % 8) A || eqb (code % 8) B || eqb (code % 8) 7 }
 {
     let d = code % 8;
-    if (d == 0) | (d == 6) {
-        return 0;
-    }
-    given(code, dy, larger(dx, dy), code / 8 % 4)
-}
-
-fn minus_x(code: u8) -> bool
-    ensures { result ≡ minus_x code }
-{
-    let d = code % 8;
-    (d == 3) | (d == 6) | (d == 7)
-}
-
-fn minus_y(code: u8) -> bool
-    ensures { result ≡ minus_y code }
-{
-    let d = code % 8;
-    (d == 4) | (d == 5) | (d == 7)
+    (d == A) | (d == B) | (d == 7)
 }
 
 // The vector of a code, DELTAX and DELTAY.
 pub fn line_of(code: u8, dx: u8, dy: u8) -> Line
     ensures { (result ≡ line_of code dx dy) × Lengths result }
 {
-    let across = length_x(code, dx, dy);
-    let up = length_y(code, dx, dy);
-    let left = minus_x(code);
-    let down = minus_y(code);
-    if across < up {
-        Line {
-            long: up as u16,
-            short: across as u16,
-            steep: true,
-            left: left,
-            down: down,
-        }
-    } else {
-        Line {
-            long: across as u16,
-            short: up as u16,
-            steep: false,
-            left: left,
-            down: down,
-        }
+    let both = dx.max(dy);
+    let across = length::<2, 4>(code, dx, both, code / 32 % 4) as u16;
+    let up = length::<0, 6>(code, dy, both, code / 8 % 4) as u16;
+    Line {
+        long: across.max(up),
+        short: across.min(up),
+        steep: across < up,
+        left: falls::<3, 6>(code),
+        down: falls::<4, 5>(code),
     }
 }
 
-// The error term of dot i: one division, once for a run of dots.
-pub fn error_at(l: Line, i: u16) -> u16
-    requires { Lengths l × (i ≤ l.long) }
-    ensures { result ≡ error_of l.long l.short i }
-{
-    let long = l.long as u32;
-    if long == 0 {
-        return 0;
-    }
-    ((2 * (i as u32) * (l.short as u32) + long) % (2 * long)) as u16
-}
-
-// The stroke of a vector whose dot i is at (x, y).
-pub fn stroke_at(l: Line, x: u16, y: u16, i: u16) -> Stroke
-    requires { Lengths l × (i ≤ l.long) × (x < 4096) × (y < 4096) }
-    ensures { (result.i ≡ i) × OnDot l (behind x (vector_x l i)) (behind y (vector_y l i)) result }
-{
-    Stroke {
-        x: x,
-        y: y,
-        i: i,
-        error: error_at(l, i),
-    }
-}
-
+// One dot further: the sum is below two divisors, so it carries none or one.
 pub fn hopped(error: u16, short: u16, long: u16) -> Hop
     requires { (error < 2 * long) × (short ≤ long) × (long ≤ 255) }
     ensures { (result.step ≡ (error + 2 * short) / (2 * long)) × (result.error ≡ (error + 2 * short) % (2 * long)) }
@@ -147,34 +104,57 @@ pub fn hopped(error: u16, short: u16, long: u16) -> Hop
     }
 }
 
-// One dot further: one along the longer axis, none or one along the other. After the last dot the place stays.
-pub fn next_dot(l: Line, s: Stroke) -> Stroke
-    requires lengths { Lengths l × (s.i ≤ l.long) }
-    requires error_value { s.error ≡ error_of l.long l.short s.i }
-    ensures { (result.i ≡ s.i + 1) × ((x y : ℕ) → OnDot l x y s → OnDot l x y result) }
-{
-    if l.long <= s.i {
-        return Stroke {
-            x: s.x,
-            y: s.y,
-            i: s.i + 1,
-            error: s.error,
-        };
-    }
-    let h = hopped(s.error, l.short, l.long);
-    if l.steep {
-        Stroke {
-            x: advance(s.x, l.left, h.step),
-            y: advance(s.y, l.down, 1),
-            i: s.i + 1,
-            error: h.error,
+impl Vector {
+    // The error term of dot i: one division, once for a run of dots.
+    pub fn error_at(self, i: u16) -> u16
+        requires { i ≤ self.line.long }
+        ensures { result ≡ error_of self.line.long self.line.short i }
+    {
+        let long = self.line.long as u32;
+        if long == 0 {
+            return 0;
         }
-    } else {
+        ((2 * (i as u32) * (self.line.short as u32) + long) % (2 * long)) as u16
+    }
+
+    // The stroke of a vector whose dot i is at (x, y).
+    pub fn stroke_at(self, x: u16, y: u16, i: u16) -> Stroke
+        requires { (i ≤ self.line.long) × (x < 4096) × (y < 4096) }
+        ensures { (result.i ≡ i) × OnDot self.line (behind x (vector_x self.line i)) (behind y (vector_y self.line i)) result }
+    {
         Stroke {
-            x: advance(s.x, l.left, 1),
-            y: advance(s.y, l.down, h.step),
-            i: s.i + 1,
-            error: h.error,
+            x,
+            y,
+            i,
+            error: self.error_at(i),
+        }
+    }
+
+    // One dot further: one along the longer axis, none or one along the other. After the last dot the place stays.
+    pub fn next_dot(self, s: Stroke) -> Stroke
+        requires { (s.i ≤ self.line.long) × (s.error ≡ error_of self.line.long self.line.short s.i) }
+        ensures { (result.i ≡ s.i + 1) × ((x y : ℕ) → OnDot self.line x y s → OnDot self.line x y result) }
+    {
+        let l = self.line;
+        let i = s.i + 1;
+        if l.long <= s.i {
+            return Stroke { i, ..s };
+        }
+        let h = hopped(s.error, l.short, l.long);
+        if l.steep {
+            Stroke {
+                x: advance(s.x, l.left, h.step),
+                y: advance(s.y, l.down, 1),
+                i,
+                error: h.error,
+            }
+        } else {
+            Stroke {
+                x: advance(s.x, l.left, 1),
+                y: advance(s.y, l.down, h.step),
+                i,
+                error: h.error,
+            }
         }
     }
 }

@@ -13,8 +13,7 @@ use Rattle.text.specs.Numbers.{is_number, number_from}
 use Rattle.picture.specs.Dot.{dot_at}
 use Rattle.rules.specs.Calls.{read_out, granted}
 use Rattle.rules.specs.Card.{Card, outcome_of}
-use Rattle.panel.specs.declared.parse.Record.{Record}
-use Rattle.panel.specs.declared.parse.Record.TheVariants.{Write, Read, Cycles, Blanking, Edge, Malformed}
+use Rattle.panel.specs.Record.{Record, Write, Read, Cycles, Blanking, Edge, Malformed}
 use Rattle.panel.specs.Answer.{line_p, answered}
 use Rattle.panel.specs.Record.{record_by, record_of}
 use Rattle.panel.specs.Panel.{card, card_after, answer_to, answers, shown, dot_lines, panel, longest}
@@ -27,7 +26,7 @@ unfolding attached
 attached_length b [] = omega arith
 attached_length b (l ∷ ls) = omega arith
 
-lines_length : (bs : List ℕ) → length (lines_of bs) ≤ length bs
+pub lines_length : (bs : List ℕ) → length (lines_of bs) ≤ length bs
 unfolding lines_of
 lines_length [] = omega arith
 lines_length (b ∷ bs) =

@@ -4,46 +4,30 @@ use mathlib.Core.Path.{◌≡◌, refl, sym, ap, ◌∙◌}
 use mathlib.Core.Logic.{⊎_elim}
 use mathlib.Core.Bool.{false, and-false}
 use mathlib.Core.List.{List, [], ◌∷◌}
-use Prim.Native.Nat.{ℕ, suc, ◌+◌, ◌-◌, ◌<◌}
+use Prim.Native.Nat.{ℕ, suc, ◌-◌, ◌<◌, ◌≤◌}
 use native.Mathlib.Omega.{arith}
 use lib.Dec.{eqb}
 use lib.ListN.{length, get_or, take, drop, length-drop}
 use lib.Seq.{drop-cons, take_all}
 use borrow.Author.Tests.{ne_eqb, eqb-true, eqb-false}
+use Rattle.std.specs.Prelude.{Option, Some, None}
+use Rattle.std.specs.Borrow.{Bor}
 use Rattle.text.specs.Pieces.{tab, attached, fields_of}
 use Rattle.text.specs.Numbers.{is_number}
-use Rattle.text.specs.Found.{Found}
+use Rattle.text.specs.Working.Cut.{Cut}
 use Rattle.basis.proofs.Cases.{split}
-use Rattle.text.proofs.Laws.{at_tabs, joins, found_cut, found_whole, one_or_tab, no_digits}
-use Rattle.panel.specs.declared.parse.Record.{Record}
-use Rattle.panel.specs.declared.parse.Record.TheVariants.{Malformed}
-use Rattle.panel.specs.Record.{letter_of, record_by, record_of}
+use Rattle.text.proofs.Laws.{at_tabs, joins, fields_cut, one_or_tab, no_digits}
+use Rattle.panel.specs.Record.{Record, Malformed, letter_of, record_by, record_of}
 
-module _ (l : ℕ) (f g : List ℕ) where
-  -- one field or more than three
-  other_count : (n : ℕ) → (n ≡ 2 → ⊥) → (n ≡ 3 → ⊥) → record_by l n f g ≡ Malformed
-  unfolding record_by
-  other_count n h k = simp (ne_eqb n 2 h, ne_eqb n 3 k, and-false)
+-- one field or more than three
+other_count : (l n : ℕ) (f g : List ℕ) → (n ≡ 2 → ⊥) → (n ≡ 3 → ⊥) → record_by l n f g ≡ Malformed
+unfolding record_by
+other_count l n f g h k = simp (ne_eqb n 2 h, ne_eqb n 3 k, and-false)
 
-  -- two fields, and no letter for them
-  pub other_one : (l ≡ 82 → ⊥) → (l ≡ 84 → ⊥) → (l ≡ 86 → ⊥) → record_by l 2 f g ≡ Malformed
-  unfolding record_by
-  other_one r t v = simp (ne_eqb l 82 r, ne_eqb l 84 t, ne_eqb l 86 v, and-false)
-
-  -- three fields, and no letter for them
-  pub other_two : (l ≡ 87 → ⊥) → (l ≡ 76 → ⊥) → record_by l 3 f g ≡ Malformed
-  unfolding record_by
-  other_two w e = simp (ne_eqb l 87 w, ne_eqb l 76 e, and-false)
-
-  -- three fields, the last of them no number
-  bad_last : is_number 16 2 g ≡ false → is_number 10 3 g ≡ false → record_by l 3 f g ≡ Malformed
-  unfolding record_by
-  bad_last h d = simp (h, d, and-false)
-
--- an empty field is no number
-empty_field : (l n : ℕ) (g : List ℕ) → record_by l n [] g ≡ Malformed
-unfolding record_by is_number
-empty_field l n g = simp and-false
+-- three fields, the last of them no number
+bad_last : (l : ℕ) (f g : List ℕ) → is_number 16 2 g ≡ false → is_number 10 3 g ≡ false → record_by l 3 f g ≡ Malformed
+unfolding record_by
+bad_last l f g h d = simp (h, d, and-false)
 
 -- what the fields mean together
 abbrev by_fields : List (List ℕ) → Record
@@ -72,17 +56,12 @@ module _ (x : ℕ) (bs : List ℕ) where
   unfolding record_of record_by fields_of letter_of attached
   lettered = ⊎_elim (λ t. rw (t, eqb-true x tab t)) (λ t. rw t) (split (eqb x tab))
 
--- a line of fewer than three bytes
-pub short : (line : List ℕ) → length line < 3 → record_of line ≡ Malformed
+-- a line of fewer than two bytes
+pub short : (line : List ℕ) → length line < 2 → record_of line ≡ Malformed
 unfolding record_of record_by fields_of letter_of attached
 short [] h = refl
-short (x ∷ []) h = ⊎_elim (λ t. rw t) (λ t. rw t (other_count x [] [] 1 (λ e. omega arith) (λ e. omega arith))) (split (eqb x tab))
-short (x ∷ y ∷ []) h =
-    ⊎_elim
-    (λ t. rw (eqb-true y tab t) (lettered x [] ∙ empty_field x 2 []))
-    (λ t. no_tab x [] y (eqb-false y tab t))
-    (split (eqb y tab))
-short (x ∷ y ∷ z ∷ bs) h = absurd (omega arith)
+short (x ∷ []) h = ⊎_elim (λ t. rw t) (λ t. rw t (other_count x 1 [] [] (λ e. omega arith) (λ e. omega arith))) (split (eqb x tab))
+short (x ∷ y ∷ bs) h = absurd (omega arith)
 
 -- whatever stands behind the second tab is taken for the last field: with a third tab it is no number
 last_field : (l : ℕ) (f t : List ℕ) → record_by l (suc (suc (length (fields_of t)))) f (get_or (fields_of t) 0 []) ≡ record_by l 3 f t
@@ -90,12 +69,12 @@ last_field l f t =
     ⊎_elim
     (λ e. rw e)
     (λ p.
-    other_count l f (get_or (fields_of t) 0 []) (suc (suc (length (fields_of t)))) (λ e. omega (arith, p.0)) (λ e. omega (arith, p.0))
+    other_count l (suc (suc (length (fields_of t)))) f (get_or (fields_of t) 0 []) (λ e. omega (arith, p.0)) (λ e. omega (arith, p.0))
     ∙ sym (bad_last l f t (no_digits 16 2 t (p.1 16 (omega arith))) (no_digits 10 3 t (p.1 10 (omega arith)))))
     (one_or_tab t)
 
--- a line of three bytes or more: its letter, what stands behind that, and the rest
-module _ (line : List ℕ) (long : 2 < length line) where
+-- a line of two bytes or more: its letter, what stands behind that, and the rest
+module _ (line : List ℕ) (long : 2 ≤ length line) where
   shape : line ≡ get_or line 0 0 ∷ get_or line 1 0 ∷ drop 2 line
   shape = drop-cons line 0 0 (omega arith) ∙ ap (λ (l : List ℕ). get_or line 0 0 ∷ l) (drop-cons line 1 0 (omega arith))
 
@@ -103,21 +82,20 @@ module _ (line : List ℕ) (long : 2 < length line) where
   pub untabbed : (get_or line 1 0 ≡ tab → ⊥) → record_of line ≡ Malformed
   untabbed h = ap record_of shape ∙ no_tab (get_or line 0 0) (drop 2 line) (get_or line 1 0) h
 
-  -- a tab there: the fields by the search for the next
-  module _ {e : ℕ} (here : get_or line 1 0 ≡ tab) (f : Found line 2 tab e) where
-    behind : record_of line ≡ by_fields ((get_or line 0 0 ∷ []) ∷ fields_of (drop 2 line))
-    behind = ap record_of (shape ∙ ap (λ (y : ℕ). get_or line 0 0 ∷ y ∷ drop 2 line) here) ∙ lettered (get_or line 0 0) (drop 2 line)
+  -- a tab there: the fields by the next
+  module _ (here : get_or line 1 0 ≡ tab) {f : List ℕ} (r : Option (Bor (List ℕ))) (c : Cut tab (take (length line - 2) (drop 2 line)) f r) where
+    behind : record_of line ≡ by_fields ((get_or line 0 0 ∷ []) ∷ fields_of (take (length line - 2) (drop 2 line)))
+    behind =
+        ap record_of (shape ∙ ap (λ (y : ℕ). get_or line 0 0 ∷ y ∷ drop 2 line) here)
+        ∙ lettered (get_or line 0 0) (drop 2 line)
+        ∙ ap (λ (t : List ℕ). by_fields ((get_or line 0 0 ∷ []) ∷ fields_of t)) (sym (take_all (length line - 2) (drop 2 line) (simp length-drop (omega arith))))
 
     -- none: one field behind the letter
-    pub one_field : e ≡ length line → record_of line ≡ record_by (get_or line 0 0) 2 (take (e - 2) (drop 2 line)) []
+    pub one_field : r ≡ None → record_of line ≡ record_by (get_or line 0 0) 2 f []
     unfolding letter_of
-    one_field h = behind ∙ rw (found_whole at_tabs f (omega arith) long)
+    one_field none = behind ∙ rw (fields_cut _ r c, none) refl
 
     -- one: two fields, or more than any record has
-    pub two_fields : (e ≡ length line → ⊥)
-        → record_of line ≡ record_by (get_or line 0 0) 3 (take (e - 2) (drop 2 line)) (take (length line - (e + 1)) (drop (e + 1) line))
+    pub two_fields : {g : Bor (List ℕ)} → r ≡ Some g → record_of line ≡ record_by (get_or line 0 0) 3 f g.now
     unfolding letter_of
-    two_fields h =
-        let some : e < length line = omega (arith, f.high, h) in
-        let all = take_all (length line - (e + 1)) (drop (e + 1) line) (simp length-drop (omega arith)) in
-        behind ∙ rw (found_cut at_tabs f some, all) (last_field (get_or line 0 0) (take (e - 2) (drop 2 line)) (drop (e + 1) line))
+    two_fields {g} some = behind ∙ rw (fields_cut _ r c, some) (last_field (get_or line 0 0) f g.now)

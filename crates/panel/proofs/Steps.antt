@@ -2,14 +2,16 @@
 -- Assumes nothing.
 use mathlib.Core.Path.{◌≡◌, refl, sym, ap, ◌∙◌, subst}
 use mathlib.Core.Bool.{Bool}
-use mathlib.Core.List.{List, []}
+use mathlib.Core.List.{List}
 use Prim.Native.Nat.{ℕ, ◌+◌, ◌≤◌}
-use Rattle.text.specs.Wrote.{Wrote}
+use Rattle.std.specs.Prelude.{Some, None}
+use Rattle.text.specs.declared.write.Writer.{Writer}
+use Rattle.text.specs.Working.Writes.{Writes}
 use Rattle.parts.specs.declared.format.Format.TheVariants.{Ef9366}
 use Rattle.rules.specs.State.{fresh}
 use Rattle.rules.specs.Figure.{tables}
-use Rattle.rules.specs.Calls.{Answer as Verdict, memory, written, read_out, granted, blanked, struck}
-use Rattle.rules.specs.Card.{next, outcome_of}
+use Rattle.rules.specs.Calls.{written, read_out, struck}
+use Rattle.rules.specs.Card.{Card, Event, W, R, T, VB, LP, next, outcome_of}
 use Rattle.rules.specs.Working.Frames.{FrameToCome}
 use Rattle.rules.proofs.Laws.{fresh_frame, write_frame, read_frame, grant_frame, blank_frame, edge_frame}
 use Rattle.gdp.specs.declared.state.Gdp.{Gdp}
@@ -18,96 +20,119 @@ use Rattle.gdp.specs.Flat.{flat, state_of}
 use Rattle.gdp.specs.Calls.{answer_of, Grants, Blanks}
 use Rattle.gdp.specs.Working.Steps.{flat_answer}
 use Rattle.gdp.proofs.Laws.{back, stands_frame, written_across, read_across, granted_across, blanked_across, struck_across}
-use Rattle.panel.specs.declared.parse.Record.{Record}
-use Rattle.panel.specs.declared.parse.Record.TheVariants.{Write, Read, Cycles, Blanking, Edge}
-use Rattle.panel.specs.Answer.{line_r, line_t, answered}
+use Rattle.panel.specs.declared.parse.Record.{Record as Parsed}
+use Rattle.panel.specs.declared.parse.Record.TheVariants.{Write as write, Read as read, Cycles as cycles, Blanking as blanking, Edge as edge}
+use Rattle.panel.specs.Answer.{line_e, answered}
 use Rattle.panel.specs.Panel.{glyphs, dark, card, card_after, answer_to}
-use Rattle.panel.specs.Working.Played.{card_at, Tidy, Stepped}
+use Rattle.panel.specs.Working.Parsed.{meant, event_of, text_of, HasAddress}
+use Rattle.panel.specs.Working.Played.{card_at, Tidy, Called, Stepped}
+use Rattle.panel.proofs.Answers.{read_address}
 
 -- a call on tidy bytes answers what it answers on the bytes of their state
 tidied : {A : Type 0} {s : Gdp} (f : Gdp → A) → Tidy s → {x : A} → f (flat (state_of s)) ≡ x → f s ≡ x
 tidied f tidy e = ap f tidy ∙ e
 
--- bytes that an answer hands back are tidy, and stand for its state
-module _ (w : Verdict) {r : Answer} (e : r ≡ flat_answer w) (k : FrameToCome w.state) where
-  given_tidy : Tidy r.state
-  unfolding flat_answer
-  given_tidy = rw e (ap flat (sym (back w.state k)))
+-- what each call does
+module _ {s : Gdp} (tidy : Tidy s) {p t : List ℕ} {r : Answer} where
+  pub write_called : {a v : ℕ} → r ≡ answer_of s (written (state_of s) a v) → Called s p t (write a v) r p
+  unfolding outcome_of event_of
+  write_called {a} {v} e =
+      record {
+        answers = e ∙ tidied (λ b. answer_of b (written (state_of b) a v)) tidy (written_across (state_of s) (stands_frame s) a v);
+        memories = refl;
+      }
 
-  given_state : state_of r.state ≡ w.state
-  unfolding flat_answer
-  given_state = rw e (back w.state k)
+  pub read_called : {a : ℕ} → r ≡ answer_of s (read_out (state_of s) a) → Called s p t (read a) r p
+  unfolding outcome_of event_of
+  read_called {a} e =
+      record {
+        answers = e ∙ tidied (λ b. answer_of b (read_out (state_of b) a)) tidy (read_across (state_of s) (stands_frame s) a);
+        memories = refl;
+      }
 
-module _ {k : ℕ} {s : Gdp} (tidy : Tidy s) {out after : List ℕ} {at end : ℕ} {r : Answer} where
-  -- calls that are lent no memory change none
-  module _ (p t : List ℕ) where
-    -- what such a call does, by the definition's answer to it
-    stepped : (w : Verdict) (what : Record) → r ≡ flat_answer w → FrameToCome w.state → card_after (card_at s p t) what ≡ record { state = w.state; memory = memory p; tables = tables t }
-        → Wrote out at (answer_to k (card_at s p t) what) after end → end ≤ at + 11
-        → Stepped k s p t what out at r.state p after end
-    stepped w what e left same text short =
-        record {
-          card = (λ j. record { state = given_state w e left j; memory = memory p; tables = tables t }) ∙ sym same;
-          tidy = given_tidy w e left;
-          text = text;
-          short = short;
-        }
+  pub edge_called : {h v : ℕ} → r ≡ answer_of s (struck (state_of s) h v) → Called s p t (edge h v) r p
+  unfolding outcome_of event_of
+  edge_called {h} {v} e =
+      record {
+        answers = e ∙ tidied (λ b. answer_of b (struck (state_of b) h v)) tidy (struck_across (state_of s) (stands_frame s) h v);
+        memories = refl;
+      }
 
-    pub write_stepped : {a v : ℕ} → r ≡ answer_of s (written (state_of s) a v)
-        → Wrote out at (answered k r.number []) after end × (end ≤ at + 11)
-        → Stepped k s p t (Write a v) out at r.state p after end
-    unfolding card_after answer_to next outcome_of flat_answer
-    write_stepped {a} {v} e w =
-        let is = e ∙ tidied (λ b. answer_of b (written (state_of b) a v)) tidy (written_across (state_of s) (stands_frame s) a v) in
-        stepped (written (state_of s) a v) (Write a v) is (write_frame (state_of s) (stands_frame s) a v) refl (rw is at w.0) w.1
+  pub cycles_called : {n : ℕ} {q : List ℕ} → Grants s n p t r q → Called s p t (cycles n) r q
+  unfolding outcome_of event_of
+  cycles_called {n} {q} o =
+      let x = granted_across (state_of s) (stands_frame s) n p t (subst (λ (b : Gdp). Grants b n p t r q) tidy o) in
+      record { answers = x.answers; memories = x.memories }
 
-    pub edge_stepped : {h v : ℕ} → r ≡ answer_of s (struck (state_of s) h v)
-        → Wrote out at (answered k r.number []) after end × (end ≤ at + 11)
-        → Stepped k s p t (Edge h v) out at r.state p after end
-    unfolding card_after answer_to next outcome_of flat_answer
-    edge_stepped {h} {v} e w =
-        let is = e ∙ tidied (λ b. answer_of b (struck (state_of b) h v)) tidy (struck_across (state_of s) (stands_frame s) h v) in
-        stepped (struck (state_of s) h v) (Edge h v) is (edge_frame (state_of s) (stands_frame s) h v) refl (rw is at w.0) w.1
+  pub blanking_called : {level : Bool} {q : List ℕ} → Blanks s level p r q → Called s p t (blanking level) r q
+  unfolding outcome_of event_of
+  blanking_called {level} {q} o =
+      let x = blanked_across (state_of s) (stands_frame s) level p (subst (λ (b : Gdp). Blanks b level p r q) tidy o) in
+      record { answers = x.answers; memories = x.memories }
 
-    pub read_stepped : {a : ℕ} → r ≡ answer_of s (read_out (state_of s) a)
-        → Wrote out at (answered k r.number (line_r a r.value)) after end × (end ≤ at + 11)
-        → Stepped k s p t (Read a) out at r.state p after end
-    unfolding card_after answer_to next outcome_of flat_answer
-    read_stepped {a} e w =
-        let is = e ∙ tidied (λ b. answer_of b (read_out (state_of b) a)) tidy (read_across (state_of s) (stands_frame s) a) in
-        stepped (read_out (state_of s) a) (Read a) is (read_frame (state_of s) (stands_frame s) a) refl (rw is at w.0) w.1
+-- a frame is to come after each event
+outcome_frame : (c : Card) (e : Event) → FrameToCome c.state → FrameToCome (outcome_of c e).answer.state
+unfolding outcome_of
+outcome_frame c (W a v) h = write_frame c.state h a v
+outcome_frame c (R a) h = read_frame c.state h a
+outcome_frame c (T n) h = grant_frame c.state h n c.memory c.tables
+outcome_frame c (VB level) h = blank_frame c.state h level c.memory
+outcome_frame c (LP x y) h = edge_frame c.state h x y
 
-  -- the others leave the memory of their outcome
-  module _ {p q : List ℕ} where
-    pub cycles_stepped : {n : ℕ} {t : List ℕ} → Grants s n p t r q
-        → Wrote out at (answered k r.number (line_t r.value)) after end × (end ≤ at + 11)
-        → Stepped k s p t (Cycles n) out at r.state q after end
-    unfolding card_after answer_to next outcome_of flat_answer
-    cycles_stepped {n} {t} o w =
-        let left = grant_frame (state_of s) (stands_frame s) n (memory p) (tables t) in
-        let x = granted_across (state_of s) (stands_frame s) n p t (subst (λ (b : Gdp). Grants b n p t r q) tidy o) in
-        record {
-          card = λ j. record { state = given_state (granted (state_of s) n (memory p) (tables t)).answer x.answers left j; memory = x.memories j; tables = tables t };
-          tidy = given_tidy (granted (state_of s) n (memory p) (tables t)).answer x.answers left;
-          text = rw x.answers at w.0;
-          short = w.1;
-        }
+-- the definition's step for a record is that for its event
+card_is : (c : Card) (r : Parsed) → card_after c (meant (Some r)) ≡ next c (event_of r)
+unfolding card_after event_of
+card_is c (write a v) = refl
+card_is c (read a) = refl
+card_is c (cycles n) = refl
+card_is c (blanking level) = refl
+card_is c (edge h v) = refl
 
-    pub blanking_stepped : {level : Bool} (t : List ℕ) → Blanks s level p r q
-        → Wrote out at (answered k r.number []) after end × (end ≤ at + 11)
-        → Stepped k s p t (Blanking level) out at r.state q after end
-    unfolding card_after answer_to next outcome_of flat_answer
-    blanking_stepped {level} t o w =
-        let left = blank_frame (state_of s) (stands_frame s) level (memory p) in
-        let x = blanked_across (state_of s) (stands_frame s) level p (subst (λ (b : Gdp). Blanks b level p r q) tidy o) in
-        record {
-          card = λ j. record { state = given_state (blanked (state_of s) level (memory p)).answer x.answers left j; memory = x.memories j; tables = tables t };
-          tidy = given_tidy (blanked (state_of s) level (memory p)).answer x.answers left;
-          text = rw x.answers at w.0;
-          short = w.1;
-        }
+text_is : (k : ℕ) (c : Card) (r : Parsed)
+    → answer_to k c (meant (Some r)) ≡ answered k (outcome_of c (event_of r)).answer.number (text_of r (outcome_of c (event_of r)).answer.value)
+unfolding answer_to event_of text_of
+text_is k c (write a v) = refl
+text_is k c (read a) = refl
+text_is k c (cycles n) = refl
+text_is k c (blanking level) = refl
+text_is k c (edge h v) = refl
+
+module _ {s : Gdp} {p t q : List ℕ} {r : Parsed} {a : Answer} (h : Called s p t r a q) where
+  left : FrameToCome (outcome_of (card_at s p t) (event_of r)).answer.state
+  left = outcome_frame (card_at s p t) (event_of r) (stands_frame s)
+
+  -- what is written makes the step whole
+  pub called_stepped : {k : ℕ} {w v : Writer} → Writes w (answered k a.number (text_of r a.value)) v → v.at ≤ w.at + 11
+      → Stepped k s p t (meant (Some r)) w a.state q v
+  unfolding next flat_answer
+  called_stepped {k} text short =
+      let given : state_of a.state ≡ (outcome_of (card_at s p t) (event_of r)).answer.state = rw h.answers (back _ left) in
+      record {
+        card = (λ j. record { state = given j; memory = h.memories j; tables = tables t }) ∙ sym (card_is (card_at s p t) r);
+        tidy = rw h.answers (ap flat (sym (back _ left)));
+        text = rw (text_is k (card_at s p t) r) (rw h.answers at text);
+        short = short;
+      }
+
+-- an accepted read is of an address
+pub called_address : {s : Gdp} {p t q : List ℕ} {a : Answer} (r : Parsed) → Called s p t r a q → a.number ≡ 0 → HasAddress r
+unfolding outcome_of event_of flat_answer
+called_address (write x v) h e = tt
+called_address {s} (read x) h e = read_address (state_of s) x (rw h.answers at e)
+called_address (cycles n) h e = tt
+called_address (blanking level) h e = tt
+called_address (edge x y) h e = tt
+
+-- a line that is no record
+pub malformed_stepped : {k : ℕ} {s : Gdp} {p t : List ℕ} {w v : Writer} → Tidy s → Writes w (line_e k 20) v → v.at ≤ w.at + 11
+    → Stepped k s p t (meant None) w s p v
+unfolding card_after answer_to
+malformed_stepped tidy text short = record { card = refl; tidy = tidy; text = text; short = short }
 
 -- the bytes of the fresh state, with a dark picture and a blank table, are the panel's card
 pub started : {s : Gdp} {p t : List ℕ} → s ≡ flat (fresh Ef9366) → p ≡ dark → t ≡ glyphs → card_at s p t ≡ card
 unfolding card
 started e hp ht = rw (e, hp, ht, back (fresh Ef9366) (fresh_frame Ef9366))
+
+pub started_tidy : {s : Gdp} → s ≡ flat (fresh Ef9366) → Tidy s
+started_tidy e = rw e (ap flat (sym (back (fresh Ef9366) (fresh_frame Ef9366))))

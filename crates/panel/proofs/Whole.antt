@@ -9,7 +9,9 @@ use lib.ListN.{length, length-take, take-append-drop}
 use borrow.Author.Tests.{lt-ltb, le-ltb}
 use Rattle.text.specs.Pieces.{lines_of}
 use Rattle.text.specs.Wrote.{Wrote}
-use Rattle.text.proofs.Laws.{wrote_more}
+use Rattle.text.specs.declared.write.Writer.{Writer}
+use Rattle.text.specs.Working.Writes.{Writes}
+use Rattle.text.proofs.Laws.{writes_more}
 use Rattle.panel.specs.Answer.{line_g, line_e}
 use Rattle.panel.specs.Panel.{card, answers, shown, dot_lines, panel, longest, fitted, Gives}
 
@@ -46,9 +48,9 @@ gives_nothing {input} {before} short =
     record { count = rw none; inside = omega arith; buffer = rw none }
 
 module _ (input : List ℕ) (h : length input ≤ 65536) where
-  pub all_written : {out o₁ o₂ o₃ p : List ℕ} {a b r : ℕ} → Wrote out 0 line_g o₁ a
-      → Wrote o₁ a (answers 1 card (lines_of input)) o₂ b
+  pub all_written : {v a b w : Writer} {p : List ℕ} → Writes v line_g a
+      → Writes a (answers 1 card (lines_of input)) b
       → p ≡ (shown card (lines_of input)).memory.picture
-      → Wrote o₂ b (dot_lines p 0 131072) o₃ r
-      → Wrote out 0 (panel input) o₃ r
-  all_written g l shows d = rw (panel_played input h) (wrote_more g (wrote_more l (rw shows at d)))
+      → Writes b (dot_lines p 0 131072) w
+      → Writes v (panel input) w
+  all_written g l shows d = rw (panel_played input h) (writes_more g (writes_more l (rw shows at d)))

@@ -8,8 +8,7 @@ use Rattle.rules.specs.State.{fresh}
 use Rattle.rules.specs.Figure.{tables}
 use Rattle.rules.specs.Calls.{memory}
 use Rattle.rules.specs.Card.{Card, W, R, T, VB, LP, outcome_of, next}
-use Rattle.panel.specs.declared.parse.Record.{Record}
-use Rattle.panel.specs.declared.parse.Record.TheVariants.{Write, Read, Cycles, Blanking, Edge, Malformed}
+use Rattle.panel.specs.Record.{Record, Write, Read, Cycles, Blanking, Edge, Malformed}
 use Rattle.panel.specs.Record.{record_of}
 use Rattle.panel.specs.Answer.{line_g, line_r, line_t, line_e, line_p, answered}
 

@@ -1,10 +1,17 @@
 -- What a line of the log means: a record, or malformed.
 -- Assumes nothing.
-use Rattle.std.specs.Prelude.{ℕ, cond, ◌&&◌, List, [], eqb, leb, length, get_or}
+use Rattle.std.specs.Prelude.{ℕ, Bool, cond, ◌&&◌, List, [], eqb, leb, length, get_or}
 use Rattle.text.specs.Pieces.{fields_of}
 use Rattle.text.specs.Numbers.{is_number, number_from}
-use Rattle.panel.specs.declared.parse.Record.{Record}
-use Rattle.panel.specs.declared.parse.Record.TheVariants.{Write, Read, Cycles, Blanking, Edge, Malformed}
+
+-- what a line may mean
+pub data Record : Type 0 where
+  Write : (address value : ℕ) → Record
+  Read : (address : ℕ) → Record
+  Cycles : (n : ℕ) → Record
+  Blanking : (level : Bool) → Record
+  Edge : (h v : ℕ) → Record
+  Malformed : Record
 
 -- the letter of a record: its first field, of one byte (0 is no letter)
 unfoldable pub letter_of : List ℕ → ℕ

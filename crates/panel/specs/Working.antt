@@ -1,2 +1,3 @@
 -- What the code and its proofs lean on; none of it has to be believed.
+pub mod Parsed
 pub mod Played

@@ -3,50 +3,43 @@ ghost use Rattle.std.specs.Prelude.{cond, [], ◌≡◌, ◌+◌, ◌*◌, ◌/�
 ghost use Rattle.picture.specs.Bit.{bit_at};
 ghost use Rattle.panel.specs.Answer.{line_p};
 ghost use Rattle.panel.specs.Panel.{dot_lines};
-ghost use Rattle.text.specs.Wrote.{Wrote};
+ghost use Rattle.text.specs.Working.Writes.{Room, Writes};
 
 use crate::output::put_p;
 use picture::dot::bit_at;
+use text::write::Writer;
 
 // The line of dot d, of byte v, where it is lit.
-fn put_dot_line(out: &mut [u8], at: usize, v: u8, d: usize) -> usize
-    requires { (d < 131072) × (at + 14 ≤ length out.old) }
-    ensures { Wrote out.old at (cond (bit_at (d % 8) v) (line_p (d % 512) (d / 512)) []) out.new result × (result ≤ at + 10) }
+fn put_dot_line(w: &mut Writer<'_>, v: u8, d: usize)
+    requires { (d < 131072) × Room 14 w.old }
+    ensures { Writes w.old (cond (bit_at (d % 8) v) (line_p (d % 512) (d / 512)) []) w.new × (w.new.at ≤ w.old.at + 10) }
 {
     if bit_at(v, (d % 8) as u8) {
-        return put_p(out, at, (d % 512) as u16, (d / 512) as u16);
+        put_p(w, (d % 512) as u16, (d / 512) as u16);
     }
-    at
 }
 
 // The lines of the eight dots of byte i. Most bytes are dark.
-fn put_byte(pic: &[u8], out: &mut [u8], at: usize, i: usize) -> usize
-    requires { (length pic.now ≡ 16384) × (i < 16384) × (at + 84 ≤ length out.old) }
-    ensures { Wrote out.old at (dot_lines pic.now (8 * i) 8) out.new result × (result ≤ at + 80) }
+fn put_byte(w: &mut Writer<'_>, pic: &[u8], i: usize)
+    requires { (length pic.now ≡ 16384) × (i < 16384) × Room 84 w.old }
+    ensures { Writes w.old (dot_lines pic.now (8 * i) 8) w.new × (w.new.at ≤ w.old.at + 80) }
 {
     let v = pic[i];
     if v == 0 {
-        return at;
+        return;
     }
-    let mut r = at;
-    let mut k = 0;
-    while k < 8 {
-        r = put_dot_line(out, r, v, 8 * i + k);
-        k += 1;
+    for k in 0..8 {
+        put_dot_line(w, v, 8 * i + k);
     }
-    r
 }
 
-// The lines of a whole picture.
-pub(crate) fn put_dots(pic: &[u8], out: &mut [u8], at: usize) -> usize
-    requires { (length pic.now ≡ 16384) × (at + 1310734 ≤ length out.old) }
-    ensures { Wrote out.old at (dot_lines pic.now 0 131072) out.new result × (result ≤ at + 1310720) }
+// The lines of a whole picture, byte by byte. A byte's number goes along, as it says where its dots are: with the byte beside it, it would
+// have to be said that the byte is that one's, which is no plainer.
+pub(crate) fn put_dots(w: &mut Writer<'_>, pic: &[u8])
+    requires { (length pic.now ≡ 16384) × Room 1310734 w.old }
+    ensures { Writes w.old (dot_lines pic.now 0 131072) w.new × (w.new.at ≤ w.old.at + 1310720) }
 {
-    let mut r = at;
-    let mut i = 0;
-    while i < 16384 {
-        r = put_byte(pic, out, r, i);
-        i += 1;
+    for i in 0..pic.len() {
+        put_byte(w, pic, i);
     }
-    r
 }

@@ -1,57 +1,62 @@
-// The lines that the panel writes, one behind the other into the lent buffer.
+// The lines that the panel writes.
 ghost use Rattle.std.specs.Prelude.{◌+◌, ◌≤◌, ◌<◌, length};
+ghost use Rattle.parts.specs.Refusal.{refusal_number};
 ghost use Rattle.panel.specs.Answer.{line_g, line_r, line_t, line_e, line_p};
-ghost use Rattle.text.specs.Wrote.{Wrote};
+ghost use Rattle.text.specs.Working.Writes.{Room, Writes};
 
+use parts::refusal::Refusal;
 use text::digits::hex_digit;
-use text::write::{put, put_decimal, put_letter, put_pair};
+use text::write::Writer;
 use text::{LINE_FEED, TAB};
 
 // G, 9366.
-pub(crate) fn put_g(out: &mut [u8], at: usize) -> usize
-    requires { at + 7 ≤ length out.old }
-    ensures { Wrote out.old at line_g out.new result }
+pub(crate) fn put_g(w: &mut Writer<'_>)
+    requires { Room 7 w.old }
+    ensures { Writes w.old line_g w.new }
 {
-    let a = put_letter(out, at, 71);
-    let b = put_decimal(out, a, 9366);
-    put(out, b, LINE_FEED)
+    w.put_letter(b'G');
+    w.put_decimal(9366);
+    w.put(LINE_FEED)
 }
 
 // R, address, two-digit hex value.
-pub(crate) fn put_r(out: &mut [u8], at: usize, address: u8, value: u16) -> usize
-    requires { (address < 16) × (at + 7 ≤ length out.old) }
-    ensures { Wrote out.old at (line_r address value) out.new result }
+pub(crate) fn put_r(w: &mut Writer<'_>, address: u8, value: u16)
+    requires { (address < 16) × Room 7 w.old }
+    ensures { Writes w.old (line_r address value) w.new }
 {
-    let a = put_letter(out, at, 82);
-    let b = put(out, a, hex_digit(address));
-    let c = put(out, b, TAB);
-    let d = put(out, c, hex_digit((value / 16 % 16) as u8));
-    let e = put(out, d, hex_digit((value % 16) as u8));
-    put(out, e, LINE_FEED)
+    w.put_all([
+        b'R',
+        TAB,
+        hex_digit(address),
+        TAB,
+        hex_digit((value / 16 % 16) as u8),
+        hex_digit((value % 16) as u8),
+        LINE_FEED,
+    ])
 }
 
 // T, cycles used.
-pub(crate) fn put_t(out: &mut [u8], at: usize, n: u16) -> usize
-    requires { at + 8 ≤ length out.old }
-    ensures { Wrote out.old at (line_t n) out.new result × (result ≤ at + 8) }
+pub(crate) fn put_t(w: &mut Writer<'_>, n: u16)
+    requires { Room 8 w.old }
+    ensures { Writes w.old (line_t n) w.new × (w.new.at ≤ w.old.at + 8) }
 {
-    let a = put_letter(out, at, 84);
-    let b = put_decimal(out, a, n as u32);
-    put(out, b, LINE_FEED)
+    w.put_letter(b'T');
+    w.put_decimal(u32::from(n));
+    w.put(LINE_FEED)
 }
 
 // E, line number, refusal number.
-pub(crate) fn put_e(out: &mut [u8], at: usize, line: u32, number: u8) -> usize
-    requires { (line < 100000) × (number < 100) × (at + 14 ≤ length out.old) }
-    ensures { Wrote out.old at (line_e line number) out.new result × (result ≤ at + 11) }
+pub(crate) fn put_e(w: &mut Writer<'_>, line: u32, why: Refusal)
+    requires { (line < 100000) × Room 14 w.old }
+    ensures { Writes w.old (line_e line (refusal_number why)) w.new × (w.new.at ≤ w.old.at + 11) }
 {
-    put_pair(out, at, 69, line, number as u32)
+    w.put_pair(b'E', line, u32::from(u8::from(why)))
 }
 
 // P, x, y.
-pub(crate) fn put_p(out: &mut [u8], at: usize, x: u16, y: u16) -> usize
-    requires { (x < 1000) × (y < 1000) × (at + 14 ≤ length out.old) }
-    ensures { Wrote out.old at (line_p x y) out.new result × (result ≤ at + 10) }
+pub(crate) fn put_p(w: &mut Writer<'_>, x: u16, y: u16)
+    requires { (x < 1000) × (y < 1000) × Room 14 w.old }
+    ensures { Writes w.old (line_p x y) w.new × (w.new.at ≤ w.old.at + 10) }
 {
-    put_pair(out, at, 80, x as u32, y as u32)
+    w.put_pair(b'P', u32::from(x), u32::from(y))
 }

@@ -1,14 +1,50 @@
--- The laws of the lowest number: where it is 0 no case applies, and it is never above the highest number of its cases.
+-- The laws of the numbers: no refusal has 0; where the lowest is 0 no case applies, and it is never above the highest of its cases.
 -- Assumes nothing.
 use mathlib.Core.Path.{◌≡◌, refl}
 use mathlib.Core.Bool.{Bool, true, false, cond, ◌&&◌}
-use mathlib.Core.List.{[], ◌∷◌}
+use mathlib.Core.List.{[], ◌∷◌, ◌++◌}
 use Prim.Native.Nat.{ℕ, ◌≤◌, ◌<◌}
 use native.Mathlib.Omega.{arith}
 use lib.Dec.{T, ltb, leb}
 use borrow.Author.Tests.{ltb-true, leb-true}
 use Rattle.basis.proofs.Cases.{passed, and_left, and_right}
-use Rattle.parts.specs.Refusal.{Cases, lowest}
+use Rattle.parts.specs.declared.refusal.Refusal.{Refusal}
+use Rattle.parts.specs.declared.refusal.Refusal.TheVariants.{BadState, BadPicture, BadTable, BadAddress, ReadOnly, Busy, OffScreen, ShortBuffer, NoPbm, OtherSize, BadDots, NoRecord, LongLog}
+use Rattle.parts.specs.Refusal.{Cases, lowest, refusal_number}
+
+-- 0 stands for acceptance
+pub number_some : (why : Refusal) → refusal_number why ≡ 0 → ⊥
+unfolding refusal_number
+number_some BadState e = absurd (omega arith)
+number_some BadPicture e = absurd (omega arith)
+number_some BadTable e = absurd (omega arith)
+number_some BadAddress e = absurd (omega arith)
+number_some ReadOnly e = absurd (omega arith)
+number_some Busy e = absurd (omega arith)
+number_some OffScreen e = absurd (omega arith)
+number_some ShortBuffer e = absurd (omega arith)
+number_some NoPbm e = absurd (omega arith)
+number_some OtherSize e = absurd (omega arith)
+number_some BadDots e = absurd (omega arith)
+number_some NoRecord e = absurd (omega arith)
+number_some LongLog e = absurd (omega arith)
+
+-- every number has one or two digits
+pub number_small : (why : Refusal) → refusal_number why < 100
+unfolding refusal_number
+number_small BadState = omega arith
+number_small BadPicture = omega arith
+number_small BadTable = omega arith
+number_small BadAddress = omega arith
+number_small ReadOnly = omega arith
+number_small Busy = omega arith
+number_small OffScreen = omega arith
+number_small ShortBuffer = omega arith
+number_small NoPbm = omega arith
+number_small OtherSize = omega arith
+number_small BadDots = omega arith
+number_small NoRecord = omega arith
+number_small LongLog = omega arith
 
 -- no case applies
 abbrev pub None : Cases → Type 0
@@ -36,6 +72,16 @@ lowest_zero (c ∷ cs) t e =
     let some = ltb-true 0 c.0 (passed _ (and_left (ltb 0 c.0) (numbered cs) t)) in
     let h = not_taken c.1 c.0 (lowest cs) some e in
     (h.0, lowest_zero cs (and_right (ltb 0 c.0) (numbered cs) t) h.1)
+
+-- a refusal that some cases give stands, whatever cases come after them
+pub lowest_first : (why : Refusal) (cs ds : Cases) → refusal_number why ≡ lowest cs → refusal_number why ≡ lowest (cs ++ ds)
+unfolding lowest
+lowest_first why [] ds e = absurd (number_some why e)
+lowest_first why (c ∷ cs) ds e = choice c.1 (refusal_number why) c.0 _ _ e (λ e. lowest_first why cs ds e)
+  where
+    choice : (b : Bool) (n m l k : ℕ) → n ≡ cond b m l → (n ≡ l → n ≡ k) → n ≡ cond b m k
+    choice true n m l k e h = e
+    choice false n m l k e h = h e
 
 -- the number is at most the highest of the cases
 pub lowest_most : (n : ℕ) (cs : Cases) → T (up_to n cs) → lowest cs ≤ n

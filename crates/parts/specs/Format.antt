@@ -1,9 +1,24 @@
 -- The formats: EF9366; EF9365 with FMAT high and with FMAT low.
 -- Assumes nothing.
-use Rattle.std.specs.Prelude.{ℕ, ◌*◌, ◌/◌, Bool}
+use Rattle.std.specs.Prelude.{ℕ, ◌*◌, ◌/◌, Bool, cond, eqb, ltb, Result, Ok, Err}
 use Rattle.picture.specs.declared.screen.Window.{Window}
 use Rattle.parts.specs.declared.format.Format.{Format}
 use Rattle.parts.specs.declared.format.Format.TheVariants.{Ef9366, FmatHigh, FmatLow}
+use Rattle.parts.specs.declared.refusal.Refusal.{Refusal}
+use Rattle.parts.specs.declared.refusal.Refusal.TheVariants.{BadState}
+
+-- the format's number, and the format of a number
+abbrev pub format_number : Format → ℕ
+format_number Ef9366 = 0
+format_number FmatHigh = 1
+format_number FmatLow = 2
+
+unfoldable pub format_at : ℕ → Format
+format_at n = cond (eqb n 0) Ef9366 (cond (eqb n 1) FmatHigh FmatLow)
+
+-- a number from 3 on is no format's
+unfoldable pub format_named : ℕ → Result Format Refusal
+format_named n = cond (ltb n 3) (Ok (format_at n)) (Err BadState)
 
 unfoldable pub width : Format → ℕ
 width Ef9366 = 512

@@ -25,6 +25,7 @@ pub(crate) struct Wiring {
 }
 
 // A byte from its bit 7 down: its halves exchanged, then the pairs of each half, then the neighbours of each pair.
+#[tactic(auto, using(crate::proofs::Reversal::reverses))]
 fn reversed(b: u8) -> u8
     ensures { result ≡ number (down b) }
 {
@@ -33,7 +34,8 @@ fn reversed(b: u8) -> u8
     ((pairs >> 1) & 0x55) | ((pairs & 0x55) << 1)
 }
 
-// A row of the paper's table for each format.
+// A row of the paper's table for each format. The remainders are meant to drop what is above, so a conversion that tests would be no
+// plainer.
 fn wiring_of(f: Format, x: u16, y: u16) -> Wiring
     ensures { Wired f x y result }
 {
@@ -74,7 +76,8 @@ pub fn outputs(f: Format, x: u16, y: u16) -> Address
     }
 }
 
-// The lines picked apart bit by bit, as they were before the exchange; no call needs these four any more.
+// The lines picked apart bit by bit, as they were before the exchange; no call needs these four any more, so they stay to the letter: nothing else states
+// what they promise.
 
 // Bit k of a position.
 fn bit(v: u16, k: u16) -> u8

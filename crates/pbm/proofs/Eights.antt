@@ -2,24 +2,25 @@
 -- Assumes nothing.
 use mathlib.Core.Path.{◌≡◌, refl, sym, ap, ◌∙◌}
 use mathlib.Core.Logic.{⊎_elim}
-use mathlib.Core.Bool.{true, false, ◌&&◌, true≢false}
-use mathlib.Core.List.{List}
-use Prim.Native.Nat.{ℕ, suc, ◌+◌, ◌-◌, ◌*◌, ◌^◌, ◌%◌, ◌≤◌, ◌<◌}
-use native.Mathlib.Nat.{mul-add, mul_comm, mul_assoc, pow-suc, add_assoc}
-use native.Mathlib.Numerals.{add-one}
+use mathlib.Core.Bool.{Bool, true, false, ◌&&◌, and-false, false≢true}
+use mathlib.Core.List.{List, [], ◌∷◌, ◌++◌, append_assoc, append-nil}
+use Prim.Native.Nat.{ℕ, zero, suc, ◌+◌, ◌-◌, ◌*◌, ◌^◌, ◌≤◌, ◌<◌}
+use native.Mathlib.Nat.{pow-suc}
 use native.Mathlib.Omega.{arith}
 use borrow.Author.Tests.{eqb-true}
 use lib.Dec.{eqb}
-use lib.ListN.{length, get_or, take, drop, length-drop, take-append-drop, get_or-eq_default}
-use lib.Seq.{drop-drop, length-take-le}
+use lib.ListN.{length, get_or, set, take, drop, length-append, length-set}
 use lib.Pow.{pow_mono}
-use Rattle.basis.proofs.Cases.{or_cases}
+use Rattle.std.proofs.Common.{Option, None, Some, IsSome, Bor}
+use Rattle.std.specs.List.{fold}
+use Rattle.std.proofs.lemmas.List.{nil_from_length, take_all, take_more_set}
+use Rattle.std.proofs.lemmas.List.Folds.{fold_stays}
+use Rattle.basis.proofs.Cases.{or_cases, split, and_parts}
 use Rattle.picture.specs.Bit.{digit}
-use Rattle.pbm.specs.declared.signs.Eight.{Eight}
 use Rattle.pbm.specs.Contents.{passed, taken, is_dot, are_dots, weighed}
-use Rattle.pbm.specs.Working.Places.{Stands, behind}
-use Rattle.pbm.specs.Working.Eights.{Eights, Passes}
-use Rattle.pbm.proofs.Taking.{taken_passed, behind_passed, taken_take, behind_drop, taken_next, behind_next, weighed_front}
+use Rattle.pbm.specs.Working.Left.{behind}
+use Rattle.pbm.specs.Working.Eights.{Eight, Eights}
+use Rattle.pbm.proofs.Taking.{taken_passed, behind_passed, taken_take, behind_drop, dots_append, taken_next, behind_next}
 
 -- a dot's bit, and that it is one
 pub dot_digit : (b : ℕ) → is_dot b ≡ true → (48 ≤ b) × (b ≤ 49) × (b - 48 ≡ digit (eqb b 49))
@@ -29,137 +30,133 @@ dot_digit b e =
     (λ t. rw (eqb-true b 49 t) (omega arith, omega arith, refl))
     (or_cases _ _ e)
 
--- so its weight is at most that of the bit
-pub dot_weight : (b w : ℕ) → is_dot b ≡ true → (b - 48) * w ≤ w
-unfolding is_dot
-dot_weight b w e =
-    ⊎_elim (λ t. rw (eqb-true b 48 t) (omega arith)) (λ t. rw (eqb-true b 49 t) (omega arith)) (or_cases _ _ e)
-
--- signs that are not dots
-pub no_eight : {f : List ℕ} {from : ℕ} {r : Eight} → r.ok ≡ false → are_dots (taken 8 (drop from f)) ≡ false → Eights f from r
-no_eight n e =
-    record { ok = n ∙ sym e; byte = λ t. absurd (true≢false (sym t ∙ n)); stands = λ t. absurd (true≢false (sym t ∙ n)) }
-
 -- eight dots side by side
-pub side_by_side : {f : List ℕ} {at v : ℕ} → at + 8 ≤ length f → are_dots (take 8 (drop at f)) ≡ true → v ≡ weighed 8 (drop at f)
-    → Eights f at (record { ok = true; byte = v; end = at + 8 })
-side_by_side {f} {at} h e b =
-    let s = drop at f in
-    let some : 8 ≤ length s = omega (arith, length-drop at f) in
-    let signs = taken_take 8 s some e in
-    let own = rw (take-append-drop 8 s) at (weighed_front 8 (take 8 s) (drop 8 s) (omega (arith, length-take-le 8 s some))) in
-    record {
-      ok = sym (ap are_dots signs ∙ e);
-      byte = λ _. b ∙ own ∙ ap (weighed 8) (sym signs);
-      stands = λ _. record { low = omega arith; high = h; here = sym (behind_drop 8 s some e ∙ drop-drop 8 at f) };
-    }
+pub beside : {s signs rest : List ℕ} {byte : ℕ} → 8 ≤ length s → signs ≡ take 8 s → rest ≡ drop 8 s
+    → (are_dots signs ≡ true) × (byte ≡ weighed 8 signs) → Eight s byte rest
+beside {s} some here behind e =
+    let dots : are_dots (take 8 s) ≡ true = rw here at e.0 in
+    let same = here ∙ sym (taken_take 8 s some dots) in
+    record { dots = rw same at e.0; shows = rw same at e.1; left = behind ∙ sym (behind_drop 8 s some dots) }
 
 -- behind white space they are the same
-pub behind_white : {f : List ℕ} {from at : ℕ} {r : Eight} → Stands f from at (passed false (drop from f)) → Eights f at r
-    → Eights f from r
-behind_white {f} {from} p e =
-    let s = drop from f in
-    let signs = ap (taken 8) p.here ∙ taken_passed 7 s in
+beyond : {s rest : List ℕ} {byte : ℕ} → Eight (passed false s) byte rest → Eight s byte rest
+beyond {s} e =
+    let signs = taken_passed 7 s in
     record {
-      ok = e.ok ∙ ap are_dots signs;
-      byte = λ t. e.byte t ∙ ap (weighed 8) signs;
-      stands = λ t.
-          record {
-            low = omega (arith, p.low, (e.stands t).low);
-            high = (e.stands t).high;
-            here = (e.stands t).here ∙ ap (behind 8) p.here ∙ behind_passed 7 s;
-          };
+      dots = sym (ap are_dots signs) ∙ e.dots;
+      shows = e.shows ∙ ap (weighed 8) signs;
+      left = e.left ∙ behind_passed 7 s;
     }
 
--- without their byte
-pub passes_eight : {f : List ℕ} {from : ℕ} {r : Eight} → Eights f from r → Passes f from (record { ok = r.ok; end = r.end })
-passes_eight e = record { ok = e.ok; stands = e.stands }
+pub eights_beyond : (s p : List ℕ) (r : Option (ℕ × Bor (List ℕ))) → p ≡ passed false s → Eights p r → Eights s r
+eights_beyond s p None e h = sym (ap are_dots (taken_passed 7 s)) ∙ (rw e at h)
+eights_beyond s p (Some x) e h = beyond (rw e at h)
 
--- of the eight signs from a place on k are dots, which make byte; the others stand from place i on
-pub record Sought (f : List ℕ) (from byte weight k i : ℕ) : Type 0 where
-  pub few : k ≤ 8
-  pub low : from ≤ i
-  pub high : i ≤ length f
-  pub power : weight ≡ 2 ^ k
-  pub small : byte < weight
-  pub dots : are_dots (taken 8 (drop from f)) ≡ are_dots (taken (8 - k) (drop i f))
-  pub weighs : weighed 8 (taken 8 (drop from f)) ≡ byte + weight * weighed (8 - k) (taken (8 - k) (drop i f))
-  pub left : behind 8 (drop from f) ≡ behind (8 - k) (drop i f)
+-- dots that are searched for are found
+pub some_eight : (s : List ℕ) (r : Option (ℕ × Bor (List ℕ))) → are_dots (taken 8 s) ≡ true → Eights s r → IsSome r
+some_eight s None e h = absurd (false≢true (sym h ∙ e))
+some_eight s (Some x) e h = refl
 
--- none yet
-pub sought_none : {f : List ℕ} {from : ℕ} → from ≤ length f → Sought f from 0 1 0 from
-sought_none h =
-    record {
-      few = omega arith;
-      low = omega arith;
-      high = h;
-      power = refl;
-      small = omega arith;
-      dots = refl;
-      weighs = omega arith;
-      left = refl;
-    }
+-- all of them are dots where each is
+pub all_dots : (xs : List ℕ) → fold (λ dots b. dots && is_dot b) true xs ≡ are_dots xs
+unfolding are_dots
+all_dots [] = refl
+all_dots (x ∷ xs) = ⊎_elim (λ e. rw e (all_dots xs)) (λ e. rw e (fold_stays (λ dots b. dots && is_dot b) false (λ b. refl) xs)) (split (is_dot x))
 
--- all eight
-pub sought_all : {f : List ℕ} {from byte weight k i : ℕ} → 8 ≤ k → Sought f from byte weight k i
-    → Eights f from (record { ok = true; byte = byte % 256; end = i })
-unfolding taken are_dots weighed behind
-sought_all {k = k} h s =
-    let all : k ≡ 8 = omega (arith, s.few) in
-    let none : 8 - k ≡ 0 = omega arith in
-    let most : 2 ^ k ≤ 256 = pow_mono s.few in
-    record {
-      ok = sym (rw none at s.dots);
-      byte = λ _. omega (arith, s.small, s.power, rw none at s.weighs);
-      stands = λ _. record { low = s.low; high = s.high; here = sym (rw none at s.left) };
-    }
+digit_lt : (b : Bool) → digit b < 2
+digit_lt true = omega arith
+digit_lt false = omega arith
 
--- the next sign stands at place r
-module _ {f : List ℕ} {from byte weight k i r : ℕ} (s : Sought f from byte weight k i) (h : k < 8)
-    (at : Stands f i r (passed false (drop i f))) where
-  later : 8 - k ≡ suc (8 - (k + 1))
-  later = omega arith
+-- k signs weigh less than 2 to the power k
+weighed_small : (k : ℕ) (s : List ℕ) → weighed k s < 2 ^ k
+unfolding weighed
+weighed_small zero s = omega arith
+weighed_small (suc k) s =
+    omega (arith, pow-suc 2 k, weighed_small k (drop 1 s), digit_lt (eqb (get_or s 0 0) 49))
 
-  -- the weight of its bit
-  pub sought_light : weight ≤ 128
-  sought_light =
-      let most : 2 ^ k ≤ 128 = pow_mono {j = 7} (omega arith) in
-      omega (arith, s.power)
+-- of eight signs some are left, and those behind them are weighed
+pub record Weighed (signs left : List ℕ) (byte : ℕ) : Type 0 where
+  pub seen : List ℕ
+  pub whole : left ++ seen ≡ signs
+  pub weighs : byte ≡ weighed (length seen) seen
 
-  sign : are_dots (taken 8 (drop from f)) ≡ is_dot (get_or f r 0) && are_dots (taken (8 - (k + 1)) (drop (r + 1) f))
+pub weighed_none : (signs : List ℕ) → Weighed signs signs 0
+unfolding weighed
+weighed_none signs = record { seen = []; whole = append-nil signs; weighs = refl }
+
+module _ {signs rest : List ℕ} {byte : ℕ} (left : List ℕ) (b : ℕ) (w : Weighed signs rest byte) (n : rest ≡ left ++ b ∷ []) where
+  again : left ++ b ∷ w.seen ≡ signs
+  again = sym (append_assoc left (b ∷ []) w.seen) ∙ (rw n at w.whole)
+
+  -- the next one is a dot, and there is room for its bit
+  pub next_weighed : length signs ≡ 8 → are_dots signs ≡ true → (is_dot b ≡ true) × (byte < 128)
   unfolding are_dots
-  sign = s.dots ∙ rw (later, taken_next (8 - (k + 1)) f i r at.here)
+  next_weighed all e =
+      let parts = and_parts (are_dots left) (are_dots (b ∷ w.seen)) (sym (dots_append left (b ∷ w.seen)) ∙ ap are_dots again ∙ e) in
+      let few : length w.seen ≤ 7 = omega (arith, all, ap length again, length-append left (b ∷ w.seen)) in
+      let most : 2 ^ length w.seen ≤ 128 = pow_mono {j = 7} few in
+      ((and_parts (is_dot b) (are_dots w.seen) parts.1).0, omega (arith, w.weighs, weighed_small (length w.seen) w.seen))
 
-  -- it is no dot
-  pub sought_bad : is_dot (get_or f r 0) ≡ false → are_dots (taken 8 (drop from f)) ≡ false
-  sought_bad e = sign ∙ rw e
-
-  -- there is none
-  pub sought_end : r ≡ length f → are_dots (taken 8 (drop from f)) ≡ false
-  unfolding is_dot
-  sought_end e = sought_bad (rw (get_or-eq_default f 0 {n = r} (omega arith)))
-
-  -- it is a dot
-  pub sought_more : r < length f → is_dot (get_or f r 0) ≡ true
-      → Sought f from (byte + (get_or f r 0 - 48) * weight) (weight * 2) (k + 1) (r + 1)
+  pub weighed_more : {more : ℕ} → more ≡ digit (eqb b 49) + 2 * byte → Weighed signs left more
   unfolding weighed
-  sought_more l e =
-      let b = get_or f r 0 in
-      let rest = weighed (8 - (k + 1)) (taken (8 - (k + 1)) (drop (r + 1) f)) in
-      let bit = digit (eqb b 49) in
-      let sum : weight * (bit + 2 * rest) ≡ bit * weight + weight * 2 * rest =
-      rw (mul-add weight bit (2 * rest), mul_comm weight bit, mul_assoc weight 2 rest)
-      in
-      record {
-        few = omega arith;
-        low = omega (arith, s.low, at.low);
-        high = omega arith;
-        power = rw (add-one, pow-suc, s.power);
-        small = omega (arith, s.small, dot_weight b weight e);
-        dots = sign ∙ rw e;
-        weighs =
-            s.weighs
-            ∙ rw (later, taken_next (8 - (k + 1)) f i r at.here)
-            (ap (λ (n : ℕ). byte + n) sum ∙ rw (dot_digit b e).2 (sym (add_assoc byte (bit * weight) (weight * 2 * rest))));
-        left = s.left ∙ rw (later, behind_next (8 - (k + 1)) f i r at.here);
-      }
+  weighed_more e = record { seen = b ∷ w.seen; whole = again; weighs = e ∙ rw w.weighs }
+
+pub weighed_all : {signs left : List ℕ} {byte : ℕ} → length signs ≡ 8 → length left ≡ 0 → Weighed signs left byte
+    → byte ≡ weighed 8 signs
+weighed_all {left = left} all none w = w.weighs ∙ rw ((rw (nil_from_length left none) at w.whole), all)
+
+-- of eight signs that are searched for k are found, and the others stand in what is left
+pub record Sought (s signs rest : List ℕ) (k : ℕ) : Type 0 where
+  pub size : length signs ≡ 8
+  pub few : k ≤ 8
+  pub found : take k signs ++ taken (8 - k) rest ≡ taken 8 s
+  pub left : behind (8 - k) rest ≡ behind 8 s
+
+pub sought_none : (s signs : List ℕ) → length signs ≡ 8 → Sought s signs s 0
+sought_none s signs e = record { size = e; few = omega arith; found = refl; left = refl }
+
+module _ {s signs rest : List ℕ} {k : ℕ} (t : Sought s signs rest k) where
+  module _ {next : List ℕ} (h : k < 8) (n : next ≡ passed false rest) where
+    later : 8 - k ≡ suc (8 - (k + 1))
+    later = omega arith
+
+    -- there is no other
+    pub sought_end : length next ≡ 0 → are_dots (taken 8 s) ≡ false
+    unfolding taken are_dots is_dot
+    sought_end z =
+        let none : passed false rest ≡ [] = sym n ∙ nil_from_length next z in
+        sym (ap are_dots t.found) ∙ dots_append (take k signs) (taken (8 - k) rest) ∙ rw (later, none, and-false)
+
+    -- the next
+    pub sought_more : (b : ℕ) (more : List ℕ) → next ≡ b ∷ more → Sought s (set signs k b) more (k + 1)
+    sought_more b more e =
+        let there : passed false rest ≡ b ∷ more = sym n ∙ e in
+        let front : take (k + 1) (set signs k b) ≡ take k signs ++ b ∷ [] = take_more_set signs k b (omega (arith, t.size)) in
+        let m = 8 - (k + 1) in
+        record {
+          size = length-set signs k b ∙ t.size;
+          few = omega arith;
+          found =
+              ap (λ xs. xs ++ taken m more) front
+              ∙ append_assoc (take k signs) (b ∷ []) (taken m more)
+              ∙ ap (λ xs. take k signs ++ xs) (sym (ap (λ i. taken i rest) later ∙ taken_next m rest there))
+              ∙ t.found;
+          left = sym (ap (λ i. behind i rest) later ∙ behind_next m rest there) ∙ t.left;
+        }
+
+  -- all eight
+  module _ (h : 8 ≤ k) where
+    sought_signs : signs ≡ taken 8 s
+    unfolding taken
+    sought_signs =
+        let all : k ≡ 8 = omega (arith, t.few) in
+        sym (take_all 8 signs (omega (arith, t.size))) ∙ sym (append-nil (take 8 signs)) ∙ (rw all at t.found)
+
+    pub sought_other : are_dots signs ≡ false → are_dots (taken 8 s) ≡ false
+    sought_other e = rw (← sought_signs) e
+
+    pub sought_eight : {byte : ℕ} → (are_dots signs ≡ true) × (byte ≡ weighed 8 signs) → Eight s byte rest
+    unfolding behind
+    sought_eight e =
+        let all : k ≡ 8 = omega (arith, t.few) in
+        record { dots = rw (← sought_signs) e.0; shows = rw (← sought_signs) e.1; left = rw all at t.left }

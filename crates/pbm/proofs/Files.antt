@@ -3,10 +3,10 @@
 use mathlib.Core.Path.{◌≡◌, refl, sym, ap, ◌∙◌}
 use mathlib.Core.List.{List, [], ◌∷◌, ◌++◌, append_assoc}
 use Prim.Native.Nat.{ℕ, zero, suc, ◌+◌, ◌-◌, ◌*◌, ◌/◌, ◌%◌, ◌≤◌, ◌<◌}
-use native.Mathlib.Nat.{zero-add, add-zero, suc-add, add-suc, suc-mul, zero-mul, mul_left_comm, mul-le-mul_right}
-use native.Mathlib.Numerals.{add-one}
+use native.Mathlib.Nat.{zero-add, add-zero, suc-add, add-suc, suc-mul, zero-mul, mul_left_comm}
 use native.Mathlib.Omega.{arith}
-use lib.ListN.{length, get_or, length-append}
+use lib.ListN.{length, get_or, take, drop, length-append, length-drop}
+use lib.Seq.{length-take-le}
 use Rattle.text.specs.Pieces.{line_feed}
 use Rattle.text.specs.Numbers.{decimal, decimal_by}
 use Rattle.picture.specs.Bit.{bit_at}
@@ -14,17 +14,28 @@ use Rattle.picture.specs.Dot.{dot_at}
 use Rattle.parts.specs.declared.format.Format.{Format}
 use Rattle.parts.specs.declared.format.Format.TheVariants.{Ef9366, FmatHigh, FmatLow}
 use Rattle.parts.specs.Format.{width, height, bytes}
-use Rattle.pbm.specs.File.{head, signs, file_lines, body, file}
+use Rattle.pbm.specs.File.{head, sign, signs, file_lines, body, file}
 use Rattle.pbm.specs.Calls.{file_of}
 use Rattle.pbm.specs.Working.Bytes.{eight_signs}
 
--- the lines below a line, and it
-pub line_more : (y k : ℕ) → 0 < y → (y - 1) * k + k ≡ y * k
-line_more y k h = let past : suc (y - 1) ≡ y = omega arith in sym (suc-mul (y - 1) k) ∙ ap (λ (z : ℕ). z * k) past
+-- a part of the picture is as long as its bounds say
+pub part_length : (a n : ℕ) (pic : List ℕ) → a + n ≤ length pic → length (take (a + n - a) (drop a pic)) ≡ n
+part_length a n pic h =
+    let size : a + n - a ≡ n = omega arith in
+    rw size (length-take-le n (drop a pic) (omega (arith, length-drop a pic)))
 
--- are within h lines
-pub line_below : {h : ℕ} (y k : ℕ) → 0 < y → y ≤ h → (y - 1) * k + k ≤ h * k
-line_below y k some most = rw (line_more y k some) (mul-le-mul_right k most)
+-- of a byte's signs one more
+pub next_sign : (v k : ℕ) → k < 8 → take (k + 1) (eight_signs v) ≡ take k (eight_signs v) ++ (sign (bit_at k v) ∷ [])
+unfolding eight_signs
+next_sign v zero h = refl
+next_sign v (suc zero) h = refl
+next_sign v (suc (suc zero)) h = refl
+next_sign v (suc (suc (suc zero))) h = refl
+next_sign v (suc (suc (suc (suc zero)))) h = refl
+next_sign v (suc (suc (suc (suc (suc zero))))) h = refl
+next_sign v (suc (suc (suc (suc (suc (suc zero)))))) h = refl
+next_sign v (suc (suc (suc (suc (suc (suc (suc zero))))))) h = refl
+next_sign v (suc (suc (suc (suc (suc (suc (suc (suc k)))))))) h = absurd (omega arith)
 
 module _ (pic : List ℕ) where
   -- the signs of a run of dots and then of another are those of both
@@ -56,15 +67,14 @@ module _ (pic : List ℕ) where
         byte_dot i 7 (suc (suc (suc (suc (suc (suc (suc (8 * i)))))))) (omega arith) (omega arith),
       )
 
-  -- one byte more, behind k bytes from byte i on
-  pub signs_byte : (i k : ℕ) → signs pic (8 * i) (8 * (k + 1)) ≡ signs pic (8 * i) (8 * k) ++ eight_signs (get_or pic (i + k) 0)
-  signs_byte i k =
+  -- one byte more, behind k bytes
+  pub signs_byte : (k : ℕ) → signs pic 0 (8 * (k + 1)) ≡ signs pic 0 (8 * k) ++ eight_signs (get_or pic k 0)
+  signs_byte k =
       let more : 8 * (k + 1) ≡ 8 * k + 8 = omega arith in
-      let here : 8 * i + 8 * k ≡ 8 * (i + k) = omega arith in
-      rw more (signs_append (8 * i) (8 * k) 8 ∙ rw (here, byte_signs (i + k)))
+      rw more (signs_append 0 (8 * k) 8 ∙ rw (zero-add (8 * k), byte_signs k))
 
   -- one line more, behind k lines
-  lines_more : (d k : ℕ) → file_lines pic d (suc k) ≡ file_lines pic d k ++ (signs pic (d + 64 * k) 64 ++ (line_feed ∷ []))
+  pub lines_more : (d k : ℕ) → file_lines pic d (suc k) ≡ file_lines pic d k ++ (signs pic (d + 64 * k) 64 ++ (line_feed ∷ []))
   unfolding file_lines
   lines_more d zero =
       let here : d ≡ d + 64 * zero = omega arith in
@@ -74,13 +84,6 @@ module _ (pic : List ℕ) where
       ap (λ (l : List ℕ). signs pic d 64 ++ (line_feed ∷ l)) (lines_more (d + 64) k)
       ∙ sym (append_assoc (signs pic d 64) (line_feed ∷ file_lines pic (d + 64) k) _)
       ∙ ap (λ (e : ℕ). file_lines pic d (suc k) ++ (signs pic e 64 ++ (line_feed ∷ []))) there
-
-  -- the same by the number of the line's first byte
-  pub lines_line : (i k : ℕ)
-      → file_lines pic (8 * i) (k + 1) ≡ file_lines pic (8 * i) k ++ (signs pic (8 * (i + 8 * k)) 64 ++ (line_feed ∷ []))
-  lines_line i k =
-      let there : 8 * i + 64 * k ≡ 8 * (i + 8 * k) = omega arith in
-      rw (add-one k, ← there) (lines_more (8 * i) k)
 
   -- the top line of y is the first, and the lines below it follow
   pub body_line : (n y z : ℕ) → y ≡ suc z → body (64 * n) y pic ≡ file_lines pic (8 * (z * (8 * n))) n ++ body (64 * n) z pic
@@ -118,13 +121,14 @@ module _ (pic : List ℕ) where
 -- a format's lines are whole lines of the file, its bytes are theirs and few enough, and its file is longer than any head
 pub format_lines : (f : Format)
     → (64 * (width f / 64) ≡ width f)
-    × (bytes f ≡ height f * (8 * (width f / 64)))
-    × (bytes f ≤ 65536)
+    × ((0 < width f / 64) × (width f / 64 ≤ 8))
+    × (bytes f % (8 * (width f / 64)) ≡ 0)
+    × (bytes f / (8 * (width f / 64)) ≡ height f)
     × (4 ≤ height f * (65 * (width f / 64)))
 unfolding width height bytes
-format_lines Ef9366 = (refl, refl, omega arith, omega arith)
-format_lines FmatHigh = (refl, refl, omega arith, omega arith)
-format_lines FmatLow = (refl, refl, omega arith, omega arith)
+format_lines Ef9366 = (refl, (omega arith, omega arith), refl, refl, omega arith)
+format_lines FmatHigh = (refl, (omega arith, omega arith), refl, refl, omega arith)
+format_lines FmatLow = (refl, (omega arith, omega arith), refl, refl, omega arith)
 
 -- three signs for each side of the picture, and five more
 pub head_length : (f : Format) → length (head (width f) (height f)) ≡ 11

@@ -7,6 +7,7 @@ mod Files
 mod Gaps
 mod Headings
 mod Opened
+mod Parts
 mod Passing
 mod Showing
 mod Shown

@@ -1,23 +1,21 @@
 -- White space passed over, byte by byte.
 -- Assumes nothing.
-use mathlib.Core.Path.{◌≡◌, refl, sym, ap, ◌∙◌}
+use mathlib.Core.Path.{◌≡◌, refl, sym, ◌∙◌}
 use mathlib.Core.Bool.{Bool, true, false, not}
 use mathlib.Core.List.{List, [], ◌∷◌}
-use Prim.Native.Nat.{ℕ, ◌+◌, ◌≤◌, ◌<◌}
-use native.Mathlib.Numerals.{add-one}
+use Prim.Native.Nat.{ℕ, ◌-◌, ◌<◌}
 use native.Mathlib.Omega.{arith}
 use lib.Dec.{eqb}
-use lib.ListN.{length, get_or, drop, drop_of_length-le}
-use lib.Seq.{drop-cons}
+use lib.ListN.{length, get_or, take, drop, length-drop}
+use Rattle.std.proofs.lemmas.List.{take_all, drop_more, at_drop_more}
 use borrow.Author.Tests.{ne_eqb}
 use Rattle.basis.proofs.Cases.{cond_case}
 use Rattle.text.specs.Pieces.{line_feed}
 use Rattle.pbm.specs.Contents.{is_white, hash, passed}
-use Rattle.pbm.specs.Working.Places.{Stands}
 
--- the file from a place on is the byte there and the file behind it
-pub drop_next : (f : List ℕ) (i : ℕ) → i < length f → drop i f ≡ get_or f i 0 ∷ drop (i + 1) f
-drop_next f i h = rw (add-one, ← drop-cons f i 0)
+-- what the code takes of a file from a place on is all of that
+pub rest_at : (s : List ℕ) (i : ℕ) → take (length s - i) (drop i s) ≡ drop i s
+rest_at s i = take_all (length s - i) (drop i s) (omega (arith, length-drop i s))
 
 -- at the end nothing is left
 pub passed_end : (c : Bool) → passed c [] ≡ []
@@ -55,31 +53,7 @@ passed_twice false (b ∷ bs) =
     cond_case still (is_white b) (λ _. passed_twice false bs)
     (λ w. cond_case still (eqb b hash) (λ _. passed_twice true bs) (λ h. rw (w, h)))
 
--- from a place on the file is passed as far as place i, in a comment or not: the rest decides
-pub record Passing (f : List ℕ) (from : ℕ) (c : Bool) (i : ℕ) : Type 0 where
-  pub low : from ≤ i
-  pub high : i ≤ length f
-  pub same : passed false (drop from f) ≡ passed c (drop i f)
-
-module _ {f : List ℕ} {from i : ℕ} where
-  -- one byte more, whatever it does
-  pub passing_next : {c d : Bool} → i < length f → passed c (get_or f i 0 ∷ drop (i + 1) f) ≡ passed d (drop (i + 1) f)
-      → Passing f from c i → Passing f from d (i + 1)
-  passing_next {c} h e p =
-      record { low = omega (arith, p.low); high = omega arith; same = p.same ∙ ap (passed c) (drop_next f i h) ∙ e }
-
-  -- a sign is reached
-  pub passing_sign : i < length f → is_white (get_or f i 0) ≡ false → (get_or f i 0 ≡ hash → ⊥) → Passing f from false i
-      → Stands f from i (passed false (drop from f))
-  passing_sign h e n p =
-      record {
-        low = p.low;
-        high = p.high;
-        here = drop_next f i h ∙ sym (passed_sign _ _ e n) ∙ ap (passed false) (sym (drop_next f i h)) ∙ sym p.same;
-      }
-
-  -- the end is reached
-  pub passing_end : {c : Bool} → length f ≤ i → Passing f from c i → Stands f from i (passed false (drop from f))
-  passing_end {c} h p =
-      let end = drop_of_length-le f h in
-      record { low = p.low; high = p.high; here = end ∙ sym (passed_end c) ∙ ap (passed c) (sym end) ∙ sym p.same }
+-- a sign that is reached stays
+pub sign_stays : (s : List ℕ) (i : ℕ) → i < length s → is_white (get_or s i 0) ≡ false → (get_or s i 0 ≡ hash → ⊥)
+    → passed false (drop i s) ≡ drop i s
+sign_stays s i h e n = at_drop_more (passed false) s i 0 h ∙ passed_sign _ _ e n ∙ sym (drop_more s i 0 h)

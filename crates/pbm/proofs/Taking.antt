@@ -5,15 +5,15 @@ use mathlib.Core.Logic.{⊎_elim}
 use mathlib.Core.Bool.{true, false, ◌&&◌}
 use mathlib.Core.List.{List, [], ◌∷◌, ◌++◌, append-nil}
 use Prim.Native.Nat.{ℕ, zero, suc, ◌+◌, ◌*◌, ◌/◌, ◌≤◌, ◌<◌}
-use native.Mathlib.Nat.{zero-add, add-zero, suc-add, add-suc}
+use native.Mathlib.Nat.{zero-add, add-zero, suc-add}
 use native.Mathlib.Omega.{arith}
 use borrow.Author.Tests.{eqb-true}
 use lib.ListN.{length, get_or, take, drop, take-append-drop, length-drop}
-use lib.Seq.{drop-cons, drop-drop, get_or-drop, get_or-take, length-take-le, drop-append-le, drop_at}
+use lib.Seq.{length-take-le, drop-append-le, drop_at}
 use Rattle.basis.proofs.Cases.{split, and_parts, or_cases}
 use Rattle.pbm.specs.Contents.{is_white, passed, taken, is_dot, are_dots, weighed, packed, shown}
-use Rattle.pbm.specs.Working.Places.{Stands, behind}
-use Rattle.pbm.proofs.Passing.{drop_next, passed_twice}
+use Rattle.pbm.specs.Working.Left.{behind}
+use Rattle.pbm.proofs.Passing.{passed_twice}
 
 -- Signs ---------------------------------------------------------------------------------------------------------------
 
@@ -32,6 +32,16 @@ module _ (n : ℕ) (s : List ℕ) where
   pub behind_passed : behind (suc n) (passed false s) ≡ behind (suc n) s
   unfolding behind
   behind_passed = rw (passed_twice false s)
+
+-- the next sign and those behind it
+module _ (n : ℕ) (s : List ℕ) {b : ℕ} {rest : List ℕ} (e : passed false s ≡ b ∷ rest) where
+  pub taken_next : taken (suc n) s ≡ b ∷ taken n rest
+  unfolding taken
+  taken_next = rw e
+
+  pub behind_next : behind (suc n) s ≡ behind n rest
+  unfolding behind
+  behind_next = rw e
 
 -- so many signs and then so many more are those of both
 pub taken_add : (m n : ℕ) (s : List ℕ) → taken (m + n) s ≡ taken m s ++ taken n (behind m s)
@@ -92,61 +102,6 @@ module _ (n : ℕ) (s : List ℕ) (h : n ≤ length s) (e : are_dots (take n s) 
 
   pub behind_drop : behind n s ≡ drop n s
   behind_drop = rw (length-take-le n s h, take-append-drop n s) at (behind_dots (take n s) (drop n s) e)
-
--- Places --------------------------------------------------------------------------------------------------------------
-
-module _ (f : List ℕ) (at : ℕ) where
-  one_more : (k : ℕ) → at + k < length f → drop (at + k) f ≡ get_or f (at + k) 0 ∷ drop (at + suc k) f
-  one_more k h = rw add-suc (drop-cons f (at + k) 0 h)
-
-  -- the eight bytes from a place on
-  pub eight : at + 8 ≤ length f → drop at f
-      ≡ get_or f at 0
-      ∷ get_or f (at + 1) 0
-      ∷ get_or f (at + 2) 0
-      ∷ get_or f (at + 3) 0
-      ∷ get_or f (at + 4) 0
-      ∷ get_or f (at + 5) 0
-      ∷ get_or f (at + 6) 0
-      ∷ get_or f (at + 7) 0
-      ∷ drop (at + 8) f
-  eight h =
-      rw (
-        drop_next f at (omega arith),
-        one_more 1 (omega arith),
-        one_more 2 (omega arith),
-        one_more 3 (omega arith),
-        one_more 4 (omega arith),
-        one_more 5 (omega arith),
-        one_more 6 (omega arith),
-        one_more 7 (omega arith),
-      )
-
-  -- each of n dots from a place on is one
-  pub dot_at : (n k : ℕ) → at + n ≤ length f → are_dots (take n (drop at f)) ≡ true → k < n → is_dot (get_or f (at + k) 0) ≡ true
-  dot_at n k h e l =
-      let size : length (take n (drop at f)) ≡ n = length-take-le n (drop at f) (omega (arith, length-drop at f)) in
-      rw (get_or-take n (drop at f) k 0 l, get_or-drop at f k 0) at (dots_at (take n (drop at f)) k e (omega arith))
-
--- where the file stands behind white space, its next sign is that byte
-module _ (n : ℕ) (f : List ℕ) (i r : ℕ) (e : drop r f ≡ passed false (drop i f)) where
-  pub taken_next : taken (suc n) (drop i f) ≡ get_or f r 0 ∷ taken n (drop (r + 1) f)
-  unfolding taken
-  taken_next = rw (← e, get_or-drop r f 0 0, add-zero, drop-drop 1 r f)
-
-  pub behind_next : behind (suc n) (drop i f) ≡ behind n (drop (r + 1) f)
-  unfolding behind
-  behind_next = rw (← e, drop-drop 1 r f)
-
--- a place behind more signs
-pub stands_more : {f : List ℕ} {from i r : ℕ} (m n : ℕ) → Stands f from i (behind m (drop from f))
-    → Stands f i r (behind n (drop i f)) → Stands f from r (behind (m + n) (drop from f))
-stands_more {f} {from} m n a b =
-    record {
-      low = omega (arith, a.low, b.low);
-      high = b.high;
-      here = b.here ∙ ap (behind n) a.here ∙ sym (behind_add m n (drop from f));
-    }
 
 -- Bytes ---------------------------------------------------------------------------------------------------------------
 

@@ -1,9 +1,10 @@
 -- The two calls: a picture written as a file into a lent buffer, and a file read into a lent picture.
 -- Assumes nothing.
-use Rattle.std.specs.Prelude.{◌≡◌, ℕ, ◌*◌, Bool, cond, not, List, [], ◌∷◌, ◌++◌, eqb, ltb, length, drop}
+use Rattle.std.specs.Prelude.{◌≡◌, ℕ, ◌*◌, Bool, cond, not, List, [], ◌∷◌, ◌++◌, eqb, ltb, length, drop, Result, Ok, Err}
+use Rattle.parts.specs.declared.refusal.Refusal.{Refusal}
 use Rattle.parts.specs.declared.format.Format.{Format}
 use Rattle.parts.specs.Format.{width, height, bytes}
-use Rattle.parts.specs.Refusal.{lowest}
+use Rattle.parts.specs.Refusal.{lowest, refusal_number}
 use Rattle.pbm.specs.declared.answer.Answer.{Answer}
 use Rattle.pbm.specs.File.{file}
 use Rattle.pbm.specs.Contents.{opens, sized_as, from_dots, taken, are_dots, shown}
@@ -60,6 +61,15 @@ in_number f text picture =
 -- the picture is the one that the file shows; the value is 0
 unfoldable pub read_in : Format → List ℕ → List ℕ → Outcome
 read_in f text picture = settled (in_number f text picture) 0 (shown (width f) (height f) (signs_for f text)) picture
+
+-- the answer of a call as C is told it: the refusal's number, or 0 and the value; reading has none
+unfoldable pub told : Result ℕ Refusal → Answer
+told (Ok value) = record { number = 0; value = value }
+told (Err why) = record { number = refusal_number why; value = 0 }
+
+unfoldable pub told_read : Result (Unit {0}) Refusal → Answer
+told_read (Ok _) = told (Ok 0)
+told_read (Err why) = told (Err why)
 
 -- the form of the statements about both calls: r is the answer, and the lent memory is left as after
 pub record Leaves (o : Outcome) (r : Answer) (after : List ℕ) : Type 0 where

@@ -1,20 +1,14 @@
 // The head of a file: P1 and the two numbers.
-ghost use Rattle.std.specs.Prelude.{◌≡◌, ◌+◌, ◌*◌, ◌≤◌, ◌<◌, min, length, drop};
-ghost use Rattle.text.specs.Numbers.{number_from};
-ghost use Rattle.pbm.specs.Contents.{digits, behind_digits, marked};
-ghost use Rattle.pbm.specs.Working.Places.{Stands};
-ghost use Rattle.pbm.specs.Working.Heads.{Heads};
+ghost use Rattle.std.specs.Prelude.{◌≡◌, true, false, ◌+◌, ◌*◌, ◌≤◌, ◌<◌, min, MatchOption, MatchResult, slice_index, drop};
+ghost use Rattle.parts.specs.Refusal.{refusal_number};
+ghost use Rattle.pbm.specs.Contents.{is_digit, marked, opens, from_dots};
+ghost use Rattle.pbm.specs.Working.Heads.{Read, Opened, head_number};
 
-use crate::white::{HASH, is_white, pass};
-use text::digits::digit_value;
+use crate::white::{is_white, pass};
+use parts::refusal::Refusal;
+use text::digits::digit;
 
-// A whole number and the place behind it. From LARGE on numbers are not told apart: no picture is that wide.
-#[derive(Clone, Copy)]
-struct Whole {
-    n: u32,
-    end: usize,
-}
-
+// From LARGE on numbers are not told apart: no picture is that wide.
 const LARGE: u32 = 65536;
 
 // n with a digit more, LARGE at most.
@@ -22,73 +16,54 @@ fn grown(n: u32, d: u32) -> u32
     requires { (n ≤ 65536) × (d < 10) }
     ensures { result ≡ min 65536 (n * 10 + d) }
 {
-    let m = n * 10 + d;
-    if m < LARGE { m } else { LARGE }
+    (n * 10 + d).min(LARGE)
 }
 
-// The digits from a place on, as far as they go.
-fn read_whole(file: &[u8], from: usize) -> Whole
-    requires { from ≤ length file.now }
-    ensures { (result.n ≡ min 65536 (number_from 10 0 (digits (drop from file.now)))) × Stands file.now from result.end (behind_digits (drop from file.now)) }
+// A whole number, its digits as far as they go, and what is left of the file behind them.
+fn read_whole(left: &[u8]) -> Option<(u32, &[u8])>
+    ensures { MatchOption result (is_digit (slice_index left.now 0) ≡ false) (λ whole. Read left.now whole.0 whole.1.now) }
 {
-    let mut n: u32 = 0;
-    let mut i = from;
-    while i < file.len() {
-        let d = digit_value(file[i]) as u32;
-        if 10 <= d {
-            return Whole { n: n, end: i };
-        }
+    let (first, rest) = left.split_first()?;
+    let mut n = digit(*first, 10)?;
+    for (i, &b) in rest.iter().enumerate() {
+        let Some(d) = digit(b, 10) else {
+            return Some((n, &rest[i..]));
+        };
         n = grown(n, d);
-        i += 1;
     }
-    Whole { n: n, end: i }
+    Some((n, &[]))
 }
 
-// Whether the file starts with P1 and some white space.
-fn is_marked(file: &[u8]) -> bool
-    ensures { result ≡ marked file.now }
+// What is left of a file behind P1, where some white space follows.
+#[tactic(auto, using(crate::proofs::Headings::short_unmarked), unfolding(crate::specs::Contents::marked))]
+fn behind_mark(file: &[u8]) -> Option<&[u8]>
+    ensures { MatchOption result (marked file.now ≡ false) (λ left. (marked file.now ≡ true) × (left.now ≡ drop 2 file.now)) }
 {
-    if file.len() < 3 {
-        return false;
+    match file {
+        [b'P', b'1', b, ..] if is_white(*b) || *b == b'#' => Some(&file[2..]),
+        _ => None,
     }
-    (file[0] == 80) & (file[1] == 49) & (is_white(file[2]) | (file[2] == HASH))
 }
 
-// 10, 11, or 0 and the place of the dots.
-#[derive(Clone, Copy)]
-pub(crate) struct Head {
-    pub number: u8,
-    pub dots: usize,
-}
-
-fn refused(number: u8) -> Head
-    ensures { result.number ≡ number }
+// The two numbers of a head, and what is left of the file behind them, which has the dots.
+fn read_numbers(file: &[u8]) -> Option<(u32, u32, &[u8])>
+    ensures { MatchOption result (opens file.now ≡ false) (λ head. Opened file.now head.0 head.1 head.2.now) }
 {
-    Head {
-        number: number,
-        dots: 0,
-    }
+    let left = behind_mark(file)?;
+    let (width, left) = read_whole(pass(left))?;
+    let (height, dots) = read_whole(pass(left))?;
+    Some((width, height, dots))
 }
 
-// The head of a file that is to be of a width and a height.
-pub(crate) fn read_head(file: &[u8], width: u16, height: u16) -> Head
-    ensures { Heads width height file.now result }
+// Reads the head of a file that is to be of a width and a height. What is left of the file has the dots.
+pub(crate) fn read_head(file: &[u8], width: u16, height: u16) -> Result<&[u8], Refusal>
+    ensures { MatchResult result
+        (λ dots. (head_number width height file.now ≡ 0) × (dots.now ≡ from_dots file.now))
+        (λ why. head_number width height file.now ≡ refusal_number why) }
 {
-    if !is_marked(file) {
-        return refused(10);
+    let (read_width, read_height, dots) = read_numbers(file).ok_or(Refusal::NoPbm)?;
+    if read_width != u32::from(width) || read_height != u32::from(height) {
+        return Err(Refusal::OtherSize);
     }
-    let a = pass(file, 2);
-    let first = read_whole(file, a);
-    let b = pass(file, first.end);
-    let second = read_whole(file, b);
-    if (first.end == a) | (second.end == b) {
-        return refused(10);
-    }
-    if (first.n != width as u32) | (second.n != height as u32) {
-        return refused(11);
-    }
-    Head {
-        number: 0,
-        dots: second.end,
-    }
+    Ok(dots)
 }

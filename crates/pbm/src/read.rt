@@ -1,82 +1,69 @@
 // A file read into a lent picture.
-ghost use Rattle.std.specs.Prelude.{true, ◌≡◌, ◌+◌, ◌*◌, ◌≤◌, length, drop};
-ghost use Rattle.text.specs.Wrote.{Wrote};
+ghost use Rattle.std.specs.Prelude.{true, ◌≡◌, ◌*◌, length};
 ghost use Rattle.pbm.specs.Contents.{taken, are_dots, packed, shown};
-ghost use Rattle.pbm.specs.Calls.{read_in, Leaves};
-ghost use Rattle.pbm.specs.Working.Places.{Stands, behind};
+ghost use Rattle.pbm.specs.Calls.{read_in, told_read, Leaves};
+ghost use Rattle.pbm.specs.Working.Left.{behind};
 
-use crate::answer::{Answer, accepted, refused};
 use crate::head::read_head;
-use crate::signs::{pass_eight, take_eight};
+use crate::signs::take_eight;
 use parts::format::{Format, bytes_of, height_of, width_of};
-use text::write::put;
+use parts::refusal::Refusal;
 
-// Whether the signs from a place on are dots, eight for each of n bytes.
-fn are_dots(file: &[u8], from: usize, n: usize) -> bool
-    requires { from ≤ length file.now }
-    ensures { result ≡ are_dots (taken (8 * n) (drop from file.now)) }
+// Whether what is left of a file begins with dots, eight for each of n bytes. The byte that they show is not asked for yet.
+fn are_dots(left: &[u8], n: usize) -> bool
+    ensures { result ≡ are_dots (taken (8 * n) left.now) }
 {
-    let mut i = from;
-    let mut done = 0;
-    while done < n {
-        let e = pass_eight(file, i);
-        if !e.ok {
+    let mut rest = left;
+    for _ in 0..n {
+        let Some((_, behind)) = take_eight(rest) else {
             return false;
-        }
-        i = e.end;
-        done += 1;
+        };
+        rest = behind;
     }
     true
 }
 
-// A line of the picture, the n bytes from byte at on, and the place behind its signs.
-fn show_line(file: &[u8], from: usize, pic: &mut [u8], at: usize, n: usize) -> usize
-    requires from_in_bounds { (from ≤ length file.now) × (at + n ≤ length pic.old) }
-    requires file_value { are_dots (taken (8 * n) (drop from file.now)) ≡ true }
-    ensures wrote { Wrote pic.old at (packed n (taken (8 * n) (drop from file.now))) pic.new (at + n) }
-    ensures stands { Stands file.now from result (behind (8 * n) (drop from file.now)) }
+// Shows a line of the picture, and says what is left of the file behind its dots.
+fn show_line<'a>(left: &'a [u8], line: &mut [u8]) -> &'a [u8]
+    requires { are_dots (taken (8 * length line.old) left.now) ≡ true }
+    ensures shown { line.new ≡ packed (length line.old) (taken (8 * length line.old) left.now) }
+    ensures left { result.now ≡ behind (8 * length line.old) left.now }
 {
-    let mut i = from;
-    let mut k = 0;
-    while k < n {
-        let e = take_eight(file, i);
-        put(pic, at + k, e.byte);
-        i = e.end;
-        k += 1;
+    let mut rest = left;
+    for byte in line.iter_mut() {
+        let (shown, behind) = take_eight(rest).unwrap();
+        *byte = shown;
+        rest = behind;
     }
-    i
+    rest
 }
 
-// The whole picture, h lines of n bytes, the top one first.
-fn show(file: &[u8], from: usize, pic: &mut [u8], n: usize, h: usize)
-    requires from_in_bounds { (from ≤ length file.now) × (length pic.old ≡ h * n) }
-    requires file_value { are_dots (taken (h * (8 * n)) (drop from file.now)) ≡ true }
-    ensures { pic.new ≡ shown (8 * n) h (taken (h * (8 * n)) (drop from file.now)) }
+// Shows the whole picture, h lines of n bytes, the top one first. Each line by its place: of chunks that are lent to be written no
+// proof knows what they hold behind the loop.
+fn show(left: &[u8], pic: &mut [u8], n: usize, h: usize)
+    requires whole { length pic.old ≡ h * n }
+    requires dots { are_dots (taken (h * (8 * n)) left.now) ≡ true }
+    ensures { pic.new ≡ shown (8 * n) h (taken (h * (8 * n)) left.now) }
 {
-    let mut i = from;
-    let mut y = h;
-    while 0 < y {
-        y -= 1;
-        i = show_line(file, i, pic, y * n, n);
+    let mut rest = left;
+    for y in (0..h).rev() {
+        rest = show_line(rest, &mut pic[y * n..y * n + n]);
     }
 }
 
 // Reads a file into a picture of a format. A refusal writes nothing: every dot is looked at before the first is written.
-pub fn read_pbm(format: Format, file: &[u8], pic: &mut [u8]) -> Answer
-    ensures { Leaves (read_in format file.now pic.old) result pic.new }
+pub fn read_pbm(format: Format, file: &[u8], pic: &mut [u8]) -> Result<(), Refusal>
+    ensures { Leaves (read_in format file.now pic.old) (told_read result) pic.new }
 {
     if pic.len() != bytes_of(format) {
-        return refused(2);
+        return Err(Refusal::BadPicture);
     }
     let width = width_of(format);
     let height = height_of(format);
-    let head = read_head(file, width, height);
-    if head.number != 0 {
-        return refused(head.number);
+    let dots = read_head(file, width, height)?;
+    if !are_dots(dots, pic.len()) {
+        return Err(Refusal::BadDots);
     }
-    if !are_dots(file, head.dots, pic.len()) {
-        return refused(12);
-    }
-    show(file, head.dots, pic, (width / 8) as usize, height as usize);
-    accepted(0)
+    show(dots, pic, usize::from(width / 8), usize::from(height));
+    Ok(())
 }

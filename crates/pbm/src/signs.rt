@@ -1,159 +1,84 @@
 // The signs of a file, eight at a time: a byte of the picture.
-ghost use Rattle.std.specs.Prelude.{◌≡◌, true, false, ◌+◌, ◌*◌, ◌≤◌, ◌<◌, eqb, length, take, drop};
+ghost use Rattle.std.specs.Prelude.{◌≡◌, true, false, ◌+◌, ◌*◌, ◌<◌, eqb, IfSome, MatchOption};
 ghost use Rattle.picture.specs.Bit.{digit};
 ghost use Rattle.pbm.specs.Contents.{is_dot, are_dots, weighed};
-ghost use Rattle.pbm.specs.Working.Eights.{Eights, Passes};
+ghost use Rattle.pbm.specs.Working.Eights.{Eight, Eights};
 
 use crate::white::pass;
 
-// Eight signs: whether they are dots, the byte that they show, and the place behind them.
-#[derive(Clone, Copy)]
-pub(crate) struct Eight {
-    pub ok: bool,
-    pub byte: u8,
-    pub end: usize,
-}
-
-// Eight signs only looked at: whether they are dots, and the place behind them.
-#[derive(Clone, Copy)]
-pub(crate) struct Passed {
-    pub ok: bool,
-    pub end: usize,
-}
-
-// Signs that are not dots.
-fn no_dots() -> Eight
-    ensures { result.ok ≡ false }
-{
-    Eight {
-        ok: false,
-        byte: 0,
-        end: 0,
-    }
-}
-
+#[tactic(auto, unfolding(crate::specs::Contents::is_dot))]
 fn is_dot(b: u8) -> bool
     ensures { result ≡ is_dot b }
 {
-    (b == 48) | (b == 49)
+    matches!(b, b'0' | b'1')
 }
 
-// Whether the eight bytes from a place on are all dots.
-fn are_eight(file: &[u8], at: usize) -> bool
-    requires { at + 8 ≤ length file.now }
-    ensures { result ≡ are_dots (take 8 (drop at file.now)) }
+// Whether eight signs are all dots. No sign ends the search early, so that eight are known by one compare.
+fn are_eight(signs: &[u8; 8]) -> bool
+    ensures { result ≡ are_dots signs.now }
 {
-    let low = is_dot(file[at]) & is_dot(file[at + 1]) & is_dot(file[at + 2]) & is_dot(file[at + 3]);
-    let high = is_dot(file[at + 4])
-        & is_dot(file[at + 5])
-        & is_dot(file[at + 6])
-        & is_dot(file[at + 7]);
-    low & high
+    signs.iter().copied().fold(true, |dots, b| dots & is_dot(b))
 }
 
 // A dot as a bit below the bits of v.
+#[tactic(auto, using(crate::proofs::Eights::dot_digit))]
 fn below(b: u8, v: u8) -> u8
     requires { (is_dot b ≡ true) × (v < 128) }
-    ensures { (result ≡ digit (eqb b 49) + 2 * v) × (result ≤ 2 * v + 1) }
+    ensures { result ≡ digit (eqb b 49) + 2 * v }
 {
-    b - 48 + 2 * v
+    b - b'0' + 2 * v
 }
 
-// The byte of the eight dots from a place on.
-fn byte_of(file: &[u8], at: usize) -> u8
-    requires { (at + 8 ≤ length file.now) × (are_dots (take 8 (drop at file.now)) ≡ true) }
-    ensures { result ≡ weighed 8 (drop at file.now) }
+// The byte that eight signs show, where they are dots.
+fn byte_of(signs: &[u8; 8]) -> Option<u8>
+    ensures { MatchOption result (are_dots signs.now ≡ false) (λ byte. (are_dots signs.now ≡ true) × (byte ≡ weighed 8 signs.now)) }
 {
-    let h = below(file[at + 7], 0);
-    let g = below(file[at + 6], h);
-    let f = below(file[at + 5], g);
-    let e = below(file[at + 4], f);
-    let d = below(file[at + 3], e);
-    let c = below(file[at + 2], d);
-    let b = below(file[at + 1], c);
-    below(file[at], b)
+    if !are_eight(signs) {
+        return None;
+    }
+    let mut byte = 0;
+    for b in signs.iter().rev() {
+        byte = below(*b, byte);
+    }
+    Some(byte)
 }
 
-// The next eight signs, one after the other.
-fn search(file: &[u8], from: usize) -> Eight
-    requires { from ≤ length file.now }
-    ensures { Eights file.now from result }
+// The next eight signs as a byte, and what is left behind them, where nothing stands before or among them.
+fn side_by_side(left: &[u8]) -> Option<(u8, &[u8])>
+    ensures { IfSome result (λ e. Eight left.now e.0 e.1.now) }
 {
-    let mut byte: u32 = 0;
-    let mut weight: u32 = 1;
-    let mut k: u32 = 0;
-    let mut i = from;
-    while k < 8 {
-        i = pass(file, i);
-        if i == file.len() {
-            return no_dots();
-        }
-        if !is_dot(file[i]) {
-            return no_dots();
-        }
-        byte += (file[i] - 48) as u32 * weight;
-        weight *= 2;
-        i += 1;
-        k += 1;
-    }
-    Eight {
-        ok: true,
-        byte: (byte % 256) as u8,
-        end: i,
-    }
+    let (signs, behind) = left.split_first_chunk::<8>()?;
+    Some((byte_of(signs)?, behind))
 }
 
-// The next eight signs, white space before them passed over. Only white space among them asks for a search.
-fn find_eight(file: &[u8], from: usize) -> Eight
-    requires { from ≤ length file.now }
-    ensures { Eights file.now from result }
+// The same signs one after the other, white space and comments before each of them passed over.
+fn search(left: &[u8]) -> Option<(u8, &[u8])>
+    ensures { Eights left.now result }
 {
-    let at = pass(file, from);
-    if 8 <= file.len() - at {
-        if are_eight(file, at) {
-            return Eight {
-                ok: true,
-                byte: byte_of(file, at),
-                end: at + 8,
-            };
-        }
+    let mut rest = left;
+    let mut signs = [0; 8];
+    for sign in signs.iter_mut() {
+        let (b, behind) = pass(rest).split_first()?;
+        *sign = *b;
+        rest = behind;
     }
-    search(file, at)
+    Some((byte_of(&signs)?, rest))
 }
 
-// The next eight signs. Most stand side by side, with no white space before them.
-pub(crate) fn take_eight(file: &[u8], from: usize) -> Eight
-    requires { from ≤ length file.now }
-    ensures { Eights file.now from result }
+// The same behind white space: only white space among them asks for a search. Called, and not compiled into the loops that take
+// eight by eight: these take twice the instructions then.
+#[inline(never)]
+fn find_eight(left: &[u8]) -> Option<(u8, &[u8])>
+    ensures { Eights left.now result }
 {
-    if 8 <= file.len() - from {
-        if are_eight(file, from) {
-            return Eight {
-                ok: true,
-                byte: byte_of(file, from),
-                end: from + 8,
-            };
-        }
-    }
-    find_eight(file, from)
+    let signs = pass(left);
+    side_by_side(signs).or_else(|| search(signs))
 }
 
-// The next eight signs only looked at.
-pub(crate) fn pass_eight(file: &[u8], from: usize) -> Passed
-    requires { from ≤ length file.now }
-    ensures { Passes file.now from result }
+// The next eight signs as a byte, where they are dots, and what is left behind them. Most stand side by side, with no white
+// space before them.
+pub(crate) fn take_eight(left: &[u8]) -> Option<(u8, &[u8])>
+    ensures { Eights left.now result }
 {
-    if 8 <= file.len() - from {
-        if are_eight(file, from) {
-            return Passed {
-                ok: true,
-                end: from + 8,
-            };
-        }
-    }
-    let e = find_eight(file, from);
-    Passed {
-        ok: e.ok,
-        end: e.end,
-    }
+    side_by_side(left).or_else(|| find_eight(left))
 }

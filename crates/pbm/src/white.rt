@@ -1,35 +1,29 @@
 // White space and comments.
-ghost use Rattle.std.specs.Prelude.{◌≡◌, false, ◌≤◌, length, drop};
+ghost use Rattle.std.specs.Prelude.{◌≡◌, false};
 ghost use Rattle.pbm.specs.Contents.{is_white, passed};
-ghost use Rattle.pbm.specs.Working.Places.{Stands};
 
 use text::{LINE_FEED, TAB};
 
-pub(crate) const HASH: u8 = 35;
-
+#[tactic(auto, unfolding(crate::specs::Contents::is_white))]
 pub(crate) fn is_white(b: u8) -> bool
     ensures { result ≡ is_white b }
 {
-    (b == 32) | (b == TAB) | (b == 13) | (b == LINE_FEED)
+    matches!(b, b' ' | TAB | b'\r' | LINE_FEED)
 }
 
-// The place behind white space and comments from a place on: that of the next sign, or the end.
-pub(crate) fn pass(file: &[u8], from: usize) -> usize
-    requires { from ≤ length file.now }
-    ensures { Stands file.now from result (passed false (drop from file.now)) }
+// What is left of a file behind white space and comments.
+pub(crate) fn pass(left: &[u8]) -> &[u8]
+    ensures { result.now ≡ passed false left.now }
 {
     let mut comment = false;
-    let mut i = from;
-    while i < file.len() {
-        let b = file[i];
+    for (i, &b) in left.iter().enumerate() {
         if comment {
             comment = b != LINE_FEED;
-        } else if b == HASH {
+        } else if b == b'#' {
             comment = true;
         } else if !is_white(b) {
-            return i;
+            return &left[i..];
         }
-        i += 1;
     }
-    i
+    &[]
 }

@@ -1,102 +1,85 @@
 // A picture written as a file into a lent buffer.
-ghost use Rattle.std.specs.Prelude.{List, [], ◌∷◌, ◌++◌, ◌≡◌, ℕ, ◌+◌, ◌*◌, ◌≤◌, ◌<◌, length};
+ghost use Rattle.std.specs.Prelude.{List, [], ◌∷◌, ◌++◌, ◌≡◌, ℕ, ◌+◌, ◌*◌, ◌/◌, ◌%◌, ◌≤◌, ◌<◌, length};
 ghost use Rattle.picture.specs.Bit.{bit_at};
 ghost use Rattle.text.specs.Pieces.{line_feed};
-ghost use Rattle.text.specs.Wrote.{Wrote};
+ghost use Rattle.text.specs.Working.Writes.{Room, Writes};
 ghost use Rattle.pbm.specs.File.{head, sign, signs, file_lines, body};
-ghost use Rattle.pbm.specs.Calls.{file_of, written_out, Leaves};
+ghost use Rattle.pbm.specs.Calls.{file_of, written_out, told, Leaves};
 ghost use Rattle.pbm.specs.Working.Bytes.{eight_signs};
 
-use crate::answer::{Answer, accepted, refused};
 use parts::format::{Format, bytes_of, height_of, width_of};
+use parts::refusal::Refusal;
 use picture::dot::bit_at;
 use text::LINE_FEED;
-use text::write::{put, put_decimal};
+use text::write::Writer;
 
 // The sign of the dot that is bit k of a byte.
-fn put_sign(out: &mut [u8], at: usize, v: u8, k: u8) -> usize
-    requires { (k < 8) × (at < length out.old) }
-    ensures { Wrote out.old at (sign (bit_at k v) ∷ []) out.new result }
+#[tactic(auto, unfolding(crate::specs::File::sign))]
+fn put_sign(w: &mut Writer<'_>, v: u8, k: u8)
+    requires { (k < 8) × Room 1 w.old }
+    ensures { Writes w.old (sign (bit_at k v) ∷ []) w.new }
 {
-    if bit_at(v, k) {
-        put(out, at, 49)
-    } else {
-        put(out, at, 48)
-    }
+    let sign = if bit_at(v, k) { b'1' } else { b'0' };
+    w.put(sign);
 }
 
 // The signs of a byte.
-fn put_eight(out: &mut [u8], at: usize, v: u8) -> usize
-    requires { at + 8 ≤ length out.old }
-    ensures { Wrote out.old at (eight_signs v) out.new result }
+fn put_eight(w: &mut Writer<'_>, v: u8)
+    requires { Room 8 w.old }
+    ensures { Writes w.old (eight_signs v) w.new }
 {
-    let a = put_sign(out, at, v, 0);
-    let b = put_sign(out, a, v, 1);
-    let c = put_sign(out, b, v, 2);
-    let d = put_sign(out, c, v, 3);
-    let e = put_sign(out, d, v, 4);
-    let f = put_sign(out, e, v, 5);
-    let g = put_sign(out, f, v, 6);
-    put_sign(out, g, v, 7)
+    for k in 0..8 {
+        put_sign(w, v, k);
+    }
 }
 
-// A line of the file: the sixty-four dots from byte i on.
-fn put_line(pic: &[u8], i: usize, out: &mut [u8], at: usize) -> usize
-    requires { (i + 8 ≤ length pic.now) × (at + 65 ≤ length out.old) }
-    ensures { Wrote out.old at (signs pic.now (8 * i) 64 ++ (line_feed ∷ [])) out.new result }
+// A line of the file: the sixty-four dots of eight bytes.
+fn put_line(w: &mut Writer<'_>, eight: &[u8])
+    requires { (length eight.now ≡ 8) × Room 65 w.old }
+    ensures { Writes w.old (signs eight.now 0 64 ++ (line_feed ∷ [])) w.new }
 {
-    let mut r = at;
-    let mut k = 0;
-    while k < 8 {
-        r = put_eight(out, r, pic[i + k]);
-        k += 1;
+    for byte in eight {
+        put_eight(w, *byte);
     }
-    put(out, r, LINE_FEED)
+    w.put(LINE_FEED);
 }
 
-// A line of the picture, which has n lines of the file: the dots from byte i on.
-fn put_lines(pic: &[u8], i: usize, n: usize, out: &mut [u8], at: usize) -> usize
-    requires { (i + 8 * n ≤ length pic.now) × (length pic.now ≤ 65536) × (at + 65 * n ≤ length out.old) }
-    ensures { Wrote out.old at (file_lines pic.now (8 * i) n) out.new result }
+// A line of the picture, which has a line of the file for every eight bytes.
+fn put_lines(w: &mut Writer<'_>, line: &[u8])
+    requires { Room (65 * (length line.now / 8)) w.old }
+    ensures { Writes w.old (file_lines line.now 0 (length line.now / 8)) w.new }
 {
-    let mut r = at;
-    let mut k = 0;
-    while k < n {
-        r = put_line(pic, i + 8 * k, out, r);
-        k += 1;
+    for eight in line.chunks_exact(8) {
+        put_line(w, eight);
     }
-    r
 }
 
-// The whole picture, h lines of n lines of the file, the top one first.
-fn put_body(pic: &[u8], n: usize, h: usize, out: &mut [u8], at: usize) -> usize
-    requires { (length pic.now ≡ h * (8 * n)) × (length pic.now ≤ 65536) × (at + h * (65 * n) ≤ length out.old) }
-    ensures { Wrote out.old at (body (64 * n) h pic.now) out.new result }
+// The whole picture, whose lines have n lines of the file each. The top one is the first of the file and the last of the picture.
+fn put_body(w: &mut Writer<'_>, pic: &[u8], n: usize)
+    requires lines { (0 < n) × (n ≤ 8) × (length pic.now % (8 * n) ≡ 0) }
+    requires room { Room (length pic.now / (8 * n) * (65 * n)) w.old }
+    ensures { Writes w.old (body (64 * n) (length pic.now / (8 * n)) pic.now) w.new }
 {
-    let mut r = at;
-    let mut y = h;
-    while 0 < y {
-        y -= 1;
-        r = put_lines(pic, y * (8 * n), n, out, r);
+    for line in pic.rchunks_exact(8 * n) {
+        put_lines(w, line);
     }
-    r
 }
 
 // P1, and the size.
-fn put_head(width: u16, height: u16, out: &mut [u8]) -> usize
-    requires { 15 ≤ length out.old }
-    ensures { Wrote out.old 0 (head width height) out.new result }
+#[tactic(auto, unfolding(crate::specs::File::head))]
+fn put_head(w: &mut Writer<'_>, width: u16, height: u16)
+    requires { Room 15 w.old }
+    ensures { Writes w.old (head width height) w.new }
 {
-    let a = put(out, 0, 80);
-    let b = put(out, a, 49);
-    let c = put(out, b, LINE_FEED);
-    let d = put_decimal(out, c, width as u32);
-    let e = put(out, d, 32);
-    let f = put_decimal(out, e, height as u32);
-    put(out, f, LINE_FEED)
+    w.put_all([b'P', b'1', LINE_FEED]);
+    w.put_decimal(u32::from(width));
+    w.put(b' ');
+    w.put_decimal(u32::from(height));
+    w.put(LINE_FEED)
 }
 
 // The length of a format's file, whatever the picture.
+#[tactic(auto, using(crate::proofs::Files::file_length), unfolding(parts::specs::Format::width, parts::specs::Format::height))]
 pub fn file_bytes(f: Format) -> u32
     ensures { (pic : List ℕ) → result ≡ length (file_of f pic) }
 {
@@ -108,19 +91,20 @@ pub fn file_bytes(f: Format) -> u32
 }
 
 // Writes the picture of a format as a file at the buffer's start and says how long it is; later bytes stay.
-pub fn write_pbm(format: Format, pic: &[u8], out: &mut [u8]) -> Answer
-    ensures { Leaves (written_out format pic.now out.old) result out.new }
+pub fn write_pbm(format: Format, pic: &[u8], out: &mut [u8]) -> Result<u32, Refusal>
+    ensures { Leaves (written_out format pic.now out.old) (told result) out.new }
 {
     if pic.len() != bytes_of(format) {
-        return refused(2);
+        return Err(Refusal::BadPicture);
     }
     let n = file_bytes(format);
     if out.len() < n as usize {
-        return refused(9);
+        return Err(Refusal::ShortBuffer);
     }
     let width = width_of(format);
     let height = height_of(format);
-    let a = put_head(width, height, out);
-    put_body(pic, (width / 64) as usize, height as usize, out, a);
-    accepted(n)
+    let mut w = Writer { out, at: 0 };
+    put_head(&mut w, width, height);
+    put_body(&mut w, pic, usize::from(width / 64));
+    Ok(n)
 }

@@ -1,9 +1,10 @@
 // One bit, one dot by its number, and all of them.
-ghost use Rattle.std.specs.Prelude.{◌≡◌, ◌*◌, ◌<◌, length, replicate};
+ghost use Rattle.std.specs.Prelude.{◌≡◌, ◌*◌, ◌<◌, length};
 ghost use Rattle.picture.specs.Bit.{bit_at, with_bit};
 ghost use Rattle.picture.specs.Dot.{set_dot, whole};
 
-// Bit k of v.
+// Bit k of v. That k is a bit's number is asked here and of what follows: as a type of its own it would be made and taken apart at
+// each call, which is no plainer.
 pub fn bit_at(v: u8, k: u8) -> bool
     requires { k < 8 }
     ensures { result ≡ bit_at k v }
@@ -30,24 +31,13 @@ pub fn set_dot(pic: &mut [u8], d: usize, lit: bool)
     pic[i] = with_bit(pic[i], k, lit);
 }
 
-// Makes every byte v.
-fn fill(pic: &mut [u8], v: u8)
-    ensures { pic.new ≡ replicate (length pic.old) v }
-{
-    let mut i = 0;
-    while i < pic.len() {
-        pic[i] = v;
-        i += 1;
-    }
-}
-
 // Lights or darkens the whole picture.
 pub fn set_all(pic: &mut [u8], lit: bool)
     ensures { pic.new ≡ whole lit pic.old }
 {
     if lit {
-        fill(pic, 255);
+        pic.fill(255);
     } else {
-        fill(pic, 0);
+        pic.fill(0);
     }
 }

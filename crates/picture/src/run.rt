@@ -28,11 +28,10 @@ fn paint_byte(pic: &mut [u8], d: usize, m: usize, lit: bool)
 fn in_byte(d: usize, n: usize) -> usize
     ensures { result ≡ min (8 - d % 8) n }
 {
-    let room = 8 - d % 8;
-    if room < n { room } else { n }
+    n.min(8 - d % 8)
 }
 
-// Lights or darkens the n dots from dot d on.
+// Lights or darkens the n dots from dot d on, byte by byte: a turn takes as many as its byte has.
 fn paint_run(pic: &mut [u8], d: usize, n: usize, lit: bool)
     requires { (d + n ≤ 8 * length pic.old) × (length pic.old ≤ 65536) }
     ensures { pic.new ≡ paint lit (up_from d n) pic.old }
@@ -45,6 +44,9 @@ fn paint_run(pic: &mut [u8], d: usize, n: usize, lit: bool)
         done += m;
     }
 }
+
+// That a picture has at most 65,536 bytes is handed on from each to the next: a struct around the lent picture was tried where it is
+// drawn on, and was slower.
 
 // The same as `paint_run`, with short ways for a single dot and for dots that one byte has.
 fn paint_dots(pic: &mut [u8], d: usize, n: usize, lit: bool)
@@ -68,10 +70,8 @@ pub fn paint_rows(pic: &mut [u8], d: usize, stride: usize, n: usize, m: usize, l
     ensures { pic.new ≡ paint lit (rows_from d stride n m) pic.old }
 {
     let mut at = d;
-    let mut r = 0;
-    while r < m {
+    for _ in 0..m {
         paint_dots(pic, at, n, lit);
         at += stride;
-        r += 1;
     }
 }

@@ -9,16 +9,16 @@ fn file_buffer() -> [u8; 133131] {
 
 fn draw(rt: &HostRuntime, input: &[u8]) {
     let mut out = file_buffer();
-    let answer = panel::screen::write_screen(input, &mut out);
-    if answer.number == 0 {
-        console::write_answer(
-            rt,
-            &mut rt.stdout(),
-            &out,
-            "picture: the file could not be written",
-        );
-    } else {
-        console::say(rt, "picture: the log is longer than 65,536 bytes");
+    match panel::screen::write_screen(input, &mut out) {
+        Ok(_) => {
+            console::write_answer(
+                rt,
+                &mut rt.stdout(),
+                &out,
+                "picture: the file could not be written",
+            );
+        }
+        Err(why) => console::say(rt, format_args!("picture: {why}")),
     }
 }
 

@@ -1,8 +1,8 @@
 -- The laws of a number in decimal.
 -- Assumes nothing.
-use mathlib.Core.Path.{◌≡◌, sym, ◌∙◌}
+use mathlib.Core.Path.{◌≡◌, refl, sym, ◌∙◌}
 use mathlib.Core.Logic.{⊎_elim}
-use mathlib.Core.List.{[], ◌∷◌, ◌++◌}
+use mathlib.Core.List.{[], ◌∷◌, ◌++◌, append_assoc}
 use Prim.Native.Nat.{ℕ, zero, suc, ◌+◌, ◌-◌, ◌/◌, ◌%◌, ◌^◌, ◌≤◌, ◌<◌}
 use native.Mathlib.Nat.{pow-suc}
 use native.Mathlib.Omega.{arith}
@@ -60,3 +60,16 @@ module _ (n : ℕ) where
   pub decimal_length : (k : ℕ) → n < 10 ^ suc k → length (decimal n) ≤ suc k
   unfolding decimal
   decimal_length k h = digits_most (suc n) k n h
+
+-- the last two digits behind the others
+pub decimal_hundreds : (n : ℕ) → 100 ≤ n → decimal n ≡ decimal (n / 100) ++ ((48 + n / 10 % 10) ∷ (48 + n % 10) ∷ [])
+decimal_hundreds n h =
+    let hundreds : n / 10 / 10 ≡ n / 100 = omega arith in
+    decimal_more n (omega arith) ∙ rw (decimal_more (n / 10) (omega arith), hundreds, append_assoc) refl
+
+-- two digits, and three
+pub decimal_two : (n : ℕ) → 10 ≤ n → n < 100 → decimal n ≡ (48 + n / 10) ∷ (48 + n % 10) ∷ []
+decimal_two n h l = decimal_more n h ∙ rw (decimal_one (n / 10) (omega arith)) refl
+
+pub decimal_three : (n : ℕ) → 100 ≤ n → n < 1000 → decimal n ≡ (48 + n / 100) ∷ (48 + n / 10 % 10) ∷ (48 + n % 10) ∷ []
+decimal_three n h l = decimal_hundreds n h ∙ rw (decimal_one (n / 100) (omega arith)) refl

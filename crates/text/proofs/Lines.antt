@@ -1,26 +1,33 @@
--- The lines of a text from a place on.
+-- The lines of a text, and the fields of a line, one after the other.
 -- Assumes nothing.
-use mathlib.Core.Path.{◌≡◌, ◌∙◌}
-use mathlib.Core.Logic.{⊎_elim}
+use mathlib.Core.Path.{◌≡◌, refl, ap, ◌∙◌}
 use mathlib.Core.List.{List, [], ◌∷◌}
-use Prim.Native.Nat.{ℕ, ◌+◌, ◌-◌, ◌<◌, ◌≤◌}
+use Prim.Native.Nat.{ℕ, ◌<◌}
 use native.Mathlib.Omega.{arith}
-use lib.ListN.{length, take, drop, drop_of_length-le}
-use Rattle.text.specs.Pieces.{line_feed, lines_of}
-use Rattle.text.specs.Found.{Found}
-use Rattle.basis.proofs.Cases.{less}
-use Rattle.text.proofs.Pieces.{at_line_feeds, found_cut, found_whole}
+use lib.ListN.{length, length-append}
+use Rattle.std.specs.Prelude.{Option, Some, None, unwrap_or}
+use Rattle.std.specs.Option.{option_map_or}
+use Rattle.std.specs.Borrow.{Bor}
+use Rattle.text.specs.Pieces.{tab, line_feed, lines_of, fields_of}
+use Rattle.text.specs.Working.Cut.{Cut}
+use Rattle.text.proofs.Pieces.{at_tabs, at_line_feeds, cut_pieces}
 
--- past the end there are no more
-pub lines_end : (input : List ℕ) (from : ℕ) → length input ≤ from → lines_of (drop from input) ≡ []
+-- an empty text has no lines
+pub lines_none : (t : List ℕ) → length t ≡ 0 → lines_of t ≡ []
 unfolding lines_of
-lines_end input from h = rw (drop_of_length-le input h)
+lines_none [] h = refl
+lines_none (b ∷ bs) h = absurd (omega arith)
 
--- the first line from a place on ends at the line feed found from there, or with the text
-pub lines_next : {input : List ℕ} {from e : ℕ} → Found input from line_feed e → from < length input
-    → lines_of (drop from input) ≡ take (e - from) (drop from input) ∷ lines_of (drop (e + 1) input)
-lines_next {input} {from} {e} f h =
-    ⊎_elim
-    (λ l. found_cut at_line_feeds f l)
-    (λ l. found_whole at_line_feeds f l h ∙ rw (lines_end input (e + 1) (omega arith)))
-    (less e (length input))
+-- a text that is cut at its first line feed: that line, and those of the rest
+pub lines_cut : {t f : List ℕ} (rest : Option (Bor (List ℕ))) (empty : Bor (List ℕ)) → Cut line_feed t f rest → 0 < length t → length empty.now ≡ 0
+    → lines_of t ≡ f ∷ lines_of (unwrap_or rest empty).now
+lines_cut None empty c some e = cut_pieces at_line_feeds None c some ∙ rw (lines_none empty.now e)
+lines_cut (Some r) empty c some e = cut_pieces at_line_feeds (Some r) c some
+
+-- a line that is cut at its first tab: that field, and those of the rest
+pub fields_cut : (t : List ℕ) {f : List ℕ} (rest : Option (Bor (List ℕ))) → Cut tab t f rest
+    → fields_of t ≡ f ∷ option_map_or (λ r. fields_of r.now) rest []
+unfolding fields_of
+fields_cut [] None c = rw (← c.parts)
+fields_cut [] (Some r) c = absurd (omega (arith, simp length-append at (ap length c.parts)))
+fields_cut (b ∷ bs) rest c = cut_pieces at_tabs rest c (omega arith)

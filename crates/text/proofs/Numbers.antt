@@ -1,17 +1,38 @@
 -- A field read as a number, digit by digit, in any base.
 -- Assumes nothing.
+use mathlib.Core.Logic.{⊎_elim}
 use mathlib.Core.Path.{◌≡◌, refl, sym, ap, ◌∙◌}
-use mathlib.Core.Bool.{true, false, and-false}
-use mathlib.Core.List.{List, ◌∷◌}
+use mathlib.Core.Bool.{true, false, ◌&&◌, and-false}
+use mathlib.Core.List.{List, [], ◌∷◌}
 use Prim.Native.Nat.{ℕ, suc, ◌+◌, ◌*◌, ◌^◌, ◌<◌, ◌≤◌}
 use native.Mathlib.Nat.{pow-zero, pow-suc, pow-le-pow_left, pow-le-pow_right, mul-le-mul_right}
 use native.Mathlib.Numerals.{add-one}
 use native.Mathlib.Omega.{arith}
 use lib.ListN.{length, get_or, drop, drop_of_length-le}
 use lib.Seq.{drop-cons}
-use borrow.Author.Tests.{le-leb, lt-leb, lt-ltb, le-ltb}
+use lib.Dec.{leb, ltb}
+use borrow.Author.Tests.{le-leb, lt-leb, lt-ltb, le-ltb, leb-true, ltb-true}
 use Rattle.text.specs.Taken.{Taken}
-use Rattle.text.specs.Numbers.{digit_value, are_digits, is_number, number_from}
+use Rattle.std.specs.Prelude.{Some, None}
+use Rattle.basis.proofs.Cases.{less, and_parts}
+use Rattle.text.specs.Numbers.{digit_value, digit_of, are_digits, is_number, number_from}
+
+-- a byte that is a digit of a base: its value, which is below the base; or none
+pub digit_some : (base b d : ℕ) → Some d ≡ digit_of base b → (d ≡ digit_value b) × (d < base)
+unfolding digit_of
+digit_some base b d e =
+    ⊎_elim
+    (λ h. let some = rw (lt-ltb (digit_value b) base h) at e in let same : d ≡ digit_value b = cc in (same, omega arith))
+    (λ h. let none = rw (le-ltb (digit_value b) base h) at e in cc)
+    (less (digit_value b) base)
+
+pub digit_none : (base b : ℕ) → None ≡ digit_of base b → base ≤ digit_value b
+unfolding digit_of
+digit_none base b e =
+    ⊎_elim
+    (λ h. let some = rw (lt-ltb (digit_value b) base h) at e in cc)
+    (λ h. h)
+    (less (digit_value b) base)
 
 -- a field that is no number: no digit, too many, a wrong one
 module _ (base most : ℕ) (f : List ℕ) where
@@ -26,6 +47,25 @@ module _ (base most : ℕ) (f : List ℕ) where
   pub no_digits : are_digits base f ≡ false → is_number base most f ≡ false
   unfolding is_number
   no_digits h = simp (h, and-false)
+
+-- a field's number is below the base to its length
+number_below : (base n : ℕ) (f : List ℕ) → are_digits base f ≡ true → number_from base n f < (n + 1) * base ^ length f
+unfolding are_digits number_from
+number_below base n [] t = rw pow-zero (omega arith)
+number_below base n (b ∷ bs) t =
+    let d = digit_value b in
+    let here : d < base = ltb-true d base (and_parts (ltb d base) (are_digits base bs) t).0 in
+    let rest = number_below base (n * base + d) bs (and_parts (ltb d base) (are_digits base bs) t).1 in
+    let most : n * base + d + 1 ≤ (n + 1) * base = omega arith in
+    rw (pow-suc base (length bs)) (grind (arith, rest, mul-le-mul_right (base ^ length bs) most))
+
+-- so a number of at most so many digits is small
+pub number_small : (base most : ℕ) (f : List ℕ) → 0 < base → is_number base most f ≡ true → number_from base 0 f < base ^ most
+unfolding is_number
+number_small base most f some t =
+    let p = and_parts (leb 1 (length f) && leb (length f) most) (are_digits base f) t in
+    let short = leb-true (length f) most (and_parts (leb 1 (length f)) (leb (length f) most) p.0).1 in
+    omega (arith, number_below base 0 f p.1, pow-le-pow_right some short)
 
 -- n holds the first i bytes of f, which are digits: the rest decides
 pub record Passed (base : ℕ) (f : List ℕ) (n i : ℕ) : Type 0 where

@@ -1,16 +1,18 @@
 -- A text cut at a byte: what lines and fields have in common.
 -- Assumes nothing.
-use mathlib.Core.Path.{◌≡◌, refl, sym, ap, ◌∙◌}
+use mathlib.Core.Path.{◌≡◌, refl, ap, ◌∙◌}
 use mathlib.Core.Bool.{cond}
-use mathlib.Core.List.{List, [], ◌∷◌}
-use Prim.Native.Nat.{ℕ, zero, suc, ◌+◌, ◌-◌, ◌<◌, ◌≤◌}
+use mathlib.Core.List.{List, [], ◌∷◌, ◌++◌}
+use Prim.Native.Nat.{ℕ, suc, ◌<◌}
 use native.Mathlib.Omega.{arith}
 use lib.Dec.{eqb}
-use lib.ListN.{length, get_or, take, drop, length-drop}
-use lib.Seq.{get_or-drop, drop-drop, take_all}
+use lib.ListN.{length, get_or}
 use borrow.Author.Tests.{eq-eqb, ne_eqb}
+use Rattle.std.specs.Prelude.{Option, Some, None}
+use Rattle.std.specs.Option.{option_map_or}
+use Rattle.std.specs.Borrow.{Bor}
 use Rattle.text.specs.Pieces.{tab, line_feed, attached, fields_of, lines_of}
-use Rattle.text.specs.Found.{Found}
+use Rattle.text.specs.Working.Cut.{Cut}
 
 -- a text's pieces are parted by the byte `at`; what an empty text is, is left open
 pub record Cuts (at : ℕ) (pieces : List ℕ → List (List ℕ)) : Type 0 where
@@ -33,13 +35,11 @@ module _ {at : ℕ} {pieces : List ℕ → List (List ℕ)} (cuts : Cuts at piec
   joins b bs h = cuts.more b bs ∙ rw (ne_eqb b at h)
 
   -- the first piece ends where the byte first stands
-  first : (t : List ℕ) (k : ℕ) → k < length t → ((j : ℕ) → j < k → get_or t j 0 ≡ at → ⊥) → get_or t k 0 ≡ at
-      → pieces t ≡ take k t ∷ pieces (drop (suc k) t)
+  first : (t rest : List ℕ) → ((j : ℕ) → j < length t → get_or t j 0 ≡ at → ⊥) → pieces (t ++ (at ∷ rest)) ≡ t ∷ pieces rest
   unfolding attached
-  first [] k h none here = absurd (omega arith)
-  first (b ∷ bs) zero h none here = cuts.more b bs ∙ rw (eq-eqb b at here)
-  first (b ∷ bs) (suc k) h none here =
-      joins b bs (none 0 (omega arith)) ∙ ap (attached b) (first bs k (omega arith) (λ j l. none (suc j) (omega arith)) here)
+  first [] rest none = cuts.more at rest ∙ rw (eq-eqb at at refl)
+  first (b ∷ bs) rest none =
+      joins b (bs ++ (at ∷ rest)) (none 0 (omega arith)) ∙ ap (attached b) (first bs rest (λ j l. none (suc j) (omega arith)))
 
   -- a text without it is one piece
   whole : (t : List ℕ) → 0 < length t → ((j : ℕ) → j < length t → get_or t j 0 ≡ at → ⊥) → pieces t ≡ t ∷ []
@@ -49,22 +49,8 @@ module _ {at : ℕ} {pieces : List ℕ → List (List ℕ)} (cuts : Cuts at piec
   whole (b ∷ d ∷ ds) h none =
       joins b (d ∷ ds) (none 0 (omega arith)) ∙ ap (attached b) (whole (d ∷ ds) (omega arith) (λ j l. none (suc j) (omega arith)))
 
-  -- the same by a search from a place on
-  module _ {s : List ℕ} {from e : ℕ} (f : Found s from at e) where
-    none_before : (j : ℕ) → j < e - from → get_or (drop from s) j 0 ≡ at → ⊥
-    none_before j l q = f.none (from + j) (omega arith) (omega arith) (sym (get_or-drop from s j 0) ∙ q)
-
-    pub found_cut : e < length s → pieces (drop from s) ≡ take (e - from) (drop from s) ∷ pieces (drop (e + 1) s)
-    found_cut h =
-        let low = f.low in
-        let there : from + (e - from) ≡ e = omega arith in
-        let past : from + suc (e - from) ≡ e + 1 = omega arith in
-        first (drop from s) (e - from) (simp length-drop (omega arith)) none_before
-        (get_or-drop from s (e - from) 0 ∙ ap (λ (k : ℕ). get_or s k 0) there ∙ f.here h)
-        ∙ ap (λ (k : List ℕ). take (e - from) (drop from s) ∷ pieces k)
-        (drop-drop (suc (e - from)) from s ∙ ap (λ (k : ℕ). drop k s) past)
-
-    pub found_whole : length s ≤ e → from < length s → pieces (drop from s) ≡ take (e - from) (drop from s) ∷ []
-    found_whole h l =
-        rw (take_all (e - from) (drop from s) (simp length-drop (omega arith)))
-        (whole (drop from s) (simp length-drop (omega arith)) (λ j k. none_before j (omega (arith, length-drop from s))))
+  -- so a text that is cut at the byte is its first piece and those of what stands behind that
+  pub cut_pieces : {t f : List ℕ} (rest : Option (Bor (List ℕ))) → Cut at t f rest → 0 < length t
+      → pieces t ≡ f ∷ option_map_or (λ r. pieces r.now) rest []
+  cut_pieces None c some = whole _ some (rw (← c.parts) at c.none) ∙ rw c.parts
+  cut_pieces (Some r) c some = ap pieces c.parts ∙ first _ r.now c.none

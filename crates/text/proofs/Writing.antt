@@ -2,15 +2,16 @@
 -- Assumes nothing.
 use mathlib.Core.Path.{◌≡◌, refl, ◌∙◌}
 use mathlib.Core.List.{List, [], ◌∷◌, ◌++◌, append_assoc, append-nil}
-use Prim.Native.Nat.{ℕ, ◌+◌, ◌-◌, ◌/◌, ◌%◌, ◌≤◌, ◌<◌}
-use native.Mathlib.Numerals.{add-one}
+use Prim.Native.Nat.{ℕ, ◌+◌, ◌-◌, ◌≤◌}
 use native.Mathlib.Omega.{arith}
-use lib.ListN.{set, length, drop, length-append, length-set}
-use lib.Seq.{take-suc-set, drop-set-lt, drop-drop}
+use lib.ListN.{length, drop, length-append, length-drop}
+use lib.Seq.{length-take-le, drop-drop}
+use Rattle.std.proofs.lemmas.Slice.{take-put_mid, drop-put_mid}
+use borrow.Rule.Slice.PartMut.{put_mid}
 use Rattle.text.specs.Pieces.{tab, line_feed}
-use Rattle.text.specs.Numbers.{decimal}
 use Rattle.text.specs.Wrote.{Wrote}
-use Rattle.text.proofs.Decimals.{decimal_one, decimal_more}
+use Rattle.text.specs.Working.Writes.{Writes}
+use Rattle.text.specs.declared.write.Writer.{Writer}
 
 -- what is the same from a place on is so from any later one
 pub same_later : (a b : List ℕ) (m n : ℕ) → m ≤ n → drop m a ≡ drop m b → drop n a ≡ drop n b
@@ -23,14 +24,14 @@ module _ {a : List ℕ} {at : ℕ} where
   pub wrote_none : Wrote a at [] a at
   wrote_none = record { end = omega arith; size = refl; bytes = rw append-nil; rest = refl }
 
-  -- one byte
-  pub wrote_one : {b : ℕ} → at < length a → Wrote a at (b ∷ []) (set a at b) (at + 1)
-  wrote_one h =
+  -- some bytes at once, where a part of the buffer is changed to them
+  pub wrote_all : (k n : ℕ) (ys : List ℕ) → k ≡ length ys → n ≡ at + length ys → n ≤ length a → Wrote a at ys (put_mid at k a ys) n
+  wrote_all k n ys e f h =
       record {
-        end = omega arith;
-        size = length-set a at _;
-        bytes = rw add-one (take-suc-set a at _ h);
-        rest = drop-set-lt (at + 1) a at _ (omega arith);
+        end = f;
+        size = simp (length-append, length-drop) (omega (arith, length-take-le at a (omega arith)));
+        bytes = take-put_mid at k a ys n f (omega arith);
+        rest = drop-put_mid at k a ys n (omega arith) (omega arith) (omega arith);
       }
 
   -- a text and then another are both in one
@@ -43,18 +44,19 @@ module _ {a : List ℕ} {at : ℕ} where
         rest = w.rest ∙ same_later b a r q (omega (arith, w.end)) v.rest;
       }
 
+-- the same of a writer, which keeps its buffer
+module _ {a : Writer} where
+  -- nothing
+  pub writes_none : Writes a [] a
+  writes_none = record { same = refl; wrote = wrote_none }
+
+  -- a text and then another are both in one
+  pub writes_more : {xs ys : List ℕ} {b c : Writer} → Writes a xs b → Writes b ys c → Writes a (xs ++ ys) c
+  writes_more v w = record { same = w.same ∙ v.same; wrote = wrote_more v.wrote w.wrote }
+
   -- a text of at most k bytes ends within them
-  pub wrote_within : {xs b : List ℕ} {r k : ℕ} → length xs ≤ k → Wrote a at xs b r → Wrote a at xs b r × (r ≤ at + k)
-  wrote_within most w = (w, omega (arith, w.end))
-
-  -- a digit
-  pub wrote_digit : {n r : ℕ} {b : List ℕ} → n < 10 → Wrote a at ((48 + n) ∷ []) b r → Wrote a at (decimal n) b r
-  wrote_digit h w = rw (decimal_one _ h) w
-
-  -- a number's tenth and then its last digit are the number
-  pub wrote_tenth : {n r q : ℕ} {b c : List ℕ} → 10 ≤ n
-      → Wrote a at (decimal (n / 10)) b r → Wrote b r ((48 + n % 10) ∷ []) c q → Wrote a at (decimal n) c q
-  wrote_tenth h v w = rw (decimal_more _ h) (wrote_more v w)
+  pub writes_within : {xs : List ℕ} {b : Writer} {k : ℕ} → length xs ≤ k → Writes a xs b → Writes a xs b × (b.at ≤ a.at + k)
+  writes_within most w = (w, omega (arith, w.wrote.end))
 
 -- how long a line of a letter and two texts is: two tabs and the line feed count too
 pub pair_length : (b : ℕ) (xs ys : List ℕ)

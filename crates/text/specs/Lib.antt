@@ -4,3 +4,4 @@ pub mod Found
 pub mod Taken
 pub mod Wrote
 pub mod Tables
+pub mod Working

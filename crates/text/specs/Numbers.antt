@@ -1,10 +1,14 @@
 -- Numbers as text: digits of a base, read with the highest first; hex digits and decimal numbers, written.
 -- Assumes nothing.
-use Rattle.std.specs.Prelude.{ℕ, zero, suc, ◌+◌, ◌-◌, ◌*◌, ◌/◌, ◌%◌, Bool, true, cond, ◌&&◌, List, [], ◌∷◌, ◌++◌, ltb, leb, length}
+use Rattle.std.specs.Prelude.{ℕ, zero, suc, ◌+◌, ◌-◌, ◌*◌, ◌/◌, ◌%◌, Bool, true, cond, ◌&&◌, List, [], ◌∷◌, ◌++◌, Option, Some, None, ltb, leb, length}
 
 -- the value of a digit, 0 to 9 and A to F, capitals; any other byte is no digit of any base, and counts 16
 unfoldable pub digit_value : ℕ → ℕ
 digit_value b = cond (leb 48 b && leb b 57) (b - 48) (cond (leb 65 b && leb b 70) (b - 55) 16)
+
+-- a byte's value as a digit of a base, where it is one
+unfoldable pub digit_of : ℕ → ℕ → Option ℕ
+digit_of base b = cond (ltb (digit_value b) base) (Some (digit_value b)) None
 
 unfoldable pub are_digits : ℕ → List ℕ → Bool
 are_digits base [] = true

@@ -1,18 +1,11 @@
 // The search for a byte.
-ghost use Rattle.std.specs.Prelude.{◌≤◌, length};
+ghost use Rattle.std.specs.Prelude.{◌<◌, length, IfSome, unwrap_or};
 ghost use Rattle.text.specs.Found.{Found};
 
-// The place of the first byte b from a place on, or the end.
-pub fn find(s: &[u8], from: usize, b: u8) -> usize
-    requires { from ≤ length s.now }
-    ensures { Found s.now from b result }
+// The place of the first byte b, where there is one.
+pub fn find(s: &[u8], b: u8) -> Option<usize>
+    ensures found { Found s.now 0 b (unwrap_or result (length s.now)) }
+    ensures within { IfSome result (λ r. r < length s.now) }
 {
-    let mut i = from;
-    while i < s.len() {
-        if s[i] == b {
-            return i;
-        }
-        i += 1;
-    }
-    i
+    s.iter().position(|x| *x == b)
 }

@@ -1,4 +1,4 @@
-// Bytes as text: a byte searched, fields read as numbers, bytes and decimal numbers written into a lent buffer.
+// Bytes as text: a byte searched, a text cut and its lines, fields read as numbers, bytes and decimal numbers written into a lent buffer.
 // Proved: each function answers or writes exactly what specs/ names. Crates above cite the laws of proofs/Laws.
 // Assumes nothing.
 #![tactic(auto)]
@@ -6,6 +6,7 @@
 pub mod digits;
 pub mod find;
 pub mod number;
+pub mod split;
 pub mod write;
 
 pub const TAB: u8 = 9;

@@ -1,36 +1,20 @@
 // A field read as a number.
-ghost use Rattle.std.specs.Prelude.{◌≤◌, ◌<◌};
+ghost use Rattle.std.specs.Prelude.{◌≤◌, ◌<◌, is_some, unwrap_or};
 ghost use Rattle.text.specs.Taken.{Taken};
 
-use crate::digits::digit_value;
+use crate::digits::digit;
 
-// A field read as a number, where it is one.
-#[derive(Clone, Copy)]
-pub struct Number {
-    pub ok: bool,
-    pub n: u32,
-}
-
-// A field of one to `most` digits of a base; ok only where it is one.
-pub fn number_of(f: &[u8], base: u32, most: usize) -> Number
+// A field of one to `most` digits of a base, as a number.
+pub fn number_of(f: &[u8], base: u32, most: usize) -> Option<u32>
     requires { (0 < base) × (base ≤ 16) × (most ≤ 8) }
-    ensures { Taken base most f.now result.ok result.n }
+    ensures { Taken base most f.now (is_some result) (unwrap_or result 0) }
 {
-    if f.len() == 0 {
-        return Number { ok: false, n: 0 };
+    if f.is_empty() || most < f.len() {
+        return None;
     }
-    if most < f.len() {
-        return Number { ok: false, n: 0 };
+    let mut n = 0;
+    for b in f {
+        n = n * base + digit(*b, base)?;
     }
-    let mut n: u32 = 0;
-    let mut i = 0;
-    while i < f.len() {
-        let d = digit_value(f[i]) as u32;
-        if base <= d {
-            return Number { ok: false, n: 0 };
-        }
-        n = n * base + d;
-        i += 1;
-    }
-    Number { ok: true, n: n }
+    Some(n)
 }

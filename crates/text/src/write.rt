@@ -1,83 +1,96 @@
-// Text written into a lent buffer, one piece behind the other: each function says the place behind its piece.
-ghost use Rattle.std.specs.Prelude.{[], ◌∷◌, ◌++◌, ◌+◌, ◌≤◌, ◌<◌, length};
+// Text written into a lent buffer, one piece behind the other.
+ghost use Rattle.std.specs.Prelude.{◌≡◌, [], ◌∷◌, ◌++◌, ◌+◌, ◌≤◌, ◌<◌, length};
 ghost use Rattle.text.specs.Pieces.{tab, line_feed};
 ghost use Rattle.text.specs.Numbers.{decimal};
-ghost use Rattle.text.specs.Wrote.{Wrote};
 
 use crate::{LINE_FEED, TAB};
 
-// One byte.
-pub fn put(out: &mut [u8], at: usize, b: u8) -> usize
-    requires { at < length out.old }
-    ensures { Wrote out.old at (b ∷ []) out.new result }
+// A digit as text.
+fn digit(d: u32) -> u8
+    requires { d < 10 }
+    ensures { result ≡ 48 + d }
 {
-    out[at] = b;
-    at + 1
+    b'0' + d as u8
 }
 
-// A digit.
-fn put_digit(out: &mut [u8], at: usize, d: u32) -> usize
-    requires { (d < 10) × (at < length out.old) }
-    ensures { Wrote out.old at ((48 + d) ∷ []) out.new result }
-{
-    put(out, at, (48 + d) as u8)
+// A lent buffer, and the place in it behind what is written.
+#[derive(Drop)]
+pub struct Writer<'a> {
+    pub out: &'a mut [u8],
+    pub at: usize,
 }
 
-// A number below 100 in decimal, without leading zeros.
-fn put_two(out: &mut [u8], at: usize, n: u32) -> usize
-    requires { (n < 100) × (at + 2 ≤ length out.old) }
-    ensures { Wrote out.old at (decimal n) out.new result × (result ≤ at + 2) }
-{
-    if n < 10 {
-        return put_digit(out, at, n);
+impl<'a> Writer<'a> {
+    ghost use Rattle.text.specs.Working.Writes.{Room, Writes};
+
+    // One byte.
+    pub fn put(&mut self, b: u8)
+        requires { Room 1 self.old }
+        ensures { Writes self.old (b ∷ []) self.new }
+    {
+        self.out[self.at] = b;
+        self.at += 1;
     }
-    let r = put_digit(out, at, n / 10);
-    put_digit(out, r, n % 10)
-}
 
-// A number below 1,000.
-fn put_three(out: &mut [u8], at: usize, n: u32) -> usize
-    requires { (n < 1000) × (at + 3 ≤ length out.old) }
-    ensures { Wrote out.old at (decimal n) out.new result × (result ≤ at + 3) }
-{
-    if n < 100 {
-        return put_two(out, at, n);
+    // Some bytes, at once.
+    pub fn put_all<const N: usize>(&mut self, bytes: [u8; N])
+        requires { Room N self.old }
+        ensures { Writes self.old bytes.entry self.new }
+    {
+        self.out[self.at..self.at + N].copy_from_slice(&bytes);
+        self.at += N;
     }
-    let r = put_two(out, at, n / 10);
-    put_digit(out, r, n % 10)
-}
 
-// A number below 100,000. Coordinates, which are most of what is written, end after three digits.
-pub fn put_decimal(out: &mut [u8], at: usize, n: u32) -> usize
-    requires { (n < 100000) × (at + 5 ≤ length out.old) }
-    ensures { Wrote out.old at (decimal n) out.new result × (result ≤ at + 5) }
-{
-    if n < 1000 {
-        return put_three(out, at, n);
+    // A number below 1,000 in decimal, without leading zeros.
+    fn put_three(&mut self, n: u32)
+        requires { (n < 1000) × Room (length (decimal n)) self.old }
+        ensures { Writes self.old (decimal n) self.new }
+    {
+        if 100 <= n {
+            return self.put_all([digit(n / 100), digit(n / 10 % 10), digit(n % 10)]);
+        }
+        if 10 <= n {
+            return self.put_all([digit(n / 10), digit(n % 10)]);
+        }
+        self.put(digit(n))
     }
-    let tenth = n / 10;
-    let a = put_three(out, at, tenth / 10);
-    let b = put_digit(out, a, tenth % 10);
-    put_digit(out, b, n % 10)
-}
 
-// A letter and a tab.
-pub fn put_letter(out: &mut [u8], at: usize, letter: u8) -> usize
-    requires { at + 2 ≤ length out.old }
-    ensures { Wrote out.old at (letter ∷ tab ∷ []) out.new result }
-{
-    let r = put(out, at, letter);
-    put(out, r, TAB)
-}
+    // A number below 100,000. Coordinates, which are most of what is written, end after three digits.
+    #[inline(always)]
+    pub fn put_decimal(&mut self, n: u32)
+        requires { (n < 100000) × Room 5 self.old }
+        ensures { Writes self.old (decimal n) self.new × (self.new.at ≤ self.old.at + 5) }
+    {
+        if n < 1000 {
+            return self.put_three(n);
+        }
+        self.put_three(n / 100);
+        self.put_all([digit(n / 10 % 10), digit(n % 10)])
+    }
 
-// A line of a letter and two numbers.
-pub fn put_pair(out: &mut [u8], at: usize, letter: u8, m: u32, n: u32) -> usize
-    requires { (m < 100000) × (n < 100000) × (at + 14 ≤ length out.old) }
-    ensures { Wrote out.old at (letter ∷ tab ∷ (decimal m ++ (tab ∷ (decimal n ++ (line_feed ∷ []))))) out.new result }
-{
-    let a = put_letter(out, at, letter);
-    let b = put_decimal(out, a, m);
-    let c = put(out, b, TAB);
-    let d = put_decimal(out, c, n);
-    put(out, d, LINE_FEED)
+    // A letter and a tab.
+    pub fn put_letter(&mut self, letter: u8)
+        requires { Room 2 self.old }
+        ensures { Writes self.old (letter ∷ tab ∷ []) self.new }
+    {
+        self.put_all([letter, TAB])
+    }
+
+    // A line of a letter and two numbers, by a writer of its own: its place stays in a register.
+    #[inline(never)]
+    pub fn put_pair(&mut self, letter: u8, m: u32, n: u32)
+        requires { (m < 100000) × (n < 100000) × Room 14 self.old }
+        ensures { Writes self.old (letter ∷ tab ∷ (decimal m ++ (tab ∷ (decimal n ++ (line_feed ∷ []))))) self.new }
+    {
+        let mut w = Writer {
+            out: &mut *self.out,
+            at: self.at,
+        };
+        w.put_letter(letter);
+        w.put_decimal(m);
+        w.put(TAB);
+        w.put_decimal(n);
+        w.put(LINE_FEED);
+        self.at = w.at;
+    }
 }

@@ -3,7 +3,7 @@
 use Rattle.std.specs.Prelude.{ℕ, ◌+◌, List, [], ◌∷◌, ◌++◌}
 use Rattle.basis.specs.Reading.{Reading, joined}
 use Rattle.parts.specs.declared.format.Format.{Format}
-use Rattle.gdp.specs.Flat.{format_number}
+use Rattle.parts.specs.Format.{format_number}
 use Rattle.pbm.specs.Calls.{Outcome}
 use Rattle.pbm.specs.Tables.Calls.{outcome}
 use Rattle.card.specs.Numbered.{numbered}

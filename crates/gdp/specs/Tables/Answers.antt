@@ -1,13 +1,14 @@
 -- What the calls answer over sixteen bytes: bytes that name nothing, refusals, the fresh state, VB's level.
 -- Assumes nothing.
-use Rattle.std.specs.Prelude.{ℕ, ◌+◌, ◌-◌, ◌*◌, ◌^◌, true, false, List, [], ◌∷◌, ◌++◌, replicate}
+use Rattle.std.specs.Prelude.{ℕ, ◌+◌, ◌-◌, ◌*◌, ◌^◌, true, false, List, [], ◌∷◌, ◌++◌, Ok, Err, replicate}
 use Rattle.basis.specs.Reading.{Reading, each, joined, told}
 use Rattle.parts.specs.declared.format.Format.TheVariants.{FmatLow}
+use Rattle.parts.specs.declared.refusal.Refusal.TheVariants.{BadState, Busy}
 use Rattle.rules.specs.Sequence.{Clear, Waiting}
 use Rattle.rules.specs.Calls.{Answer as Verdict, Located, read_out}
 use Rattle.rules.specs.Tables.Rows.{frames_named}
 use Rattle.gdp.specs.Flat.{state_of}
-use Rattle.gdp.specs.Calls.{level_of, flawed, refusal, answer_of, outputs_of, all_ones, fresh_answer}
+use Rattle.gdp.specs.Calls.{level_of, flawed, refusal, as_answer, as_outputs, answer_of, outputs_of, all_ones, fresh_answer}
 use Rattle.gdp.specs.Tables.Rows.{over, times, bytes, byte_row, answer_row, outputs_row}
 use Rattle.gdp.specs.Tables.Layout.{own, own_bytes, named_by_modes, named_by_signals}
 
@@ -108,6 +109,14 @@ answer_readings =
     ∷ (each (λ (m : ℕ). (answer_of (own_bytes m 0) (verdict 4)).number) 0 256, over named_by_modes (λ (n : ℕ). (1 + 3 * n) ∷ []))
     -- a refusal
     ∷ (joined (λ (k : ℕ). answer_row (refusal k (own_bytes 7 9))) 0 22, joined (λ (k : ℕ). k ∷ 0 ∷ came 7 9) 0 22)
+    -- what a call gives, as C has it: accepted, 0, the value and the next state; refused, its number, 0 and the bytes as they came
+    ∷ (answer_row (as_answer (own_bytes 0x80 0x81) (Ok (record { value = 513; state = own_bytes 7 9 }))), 0 ∷ 513 ∷ came 7 9)
+    ∷ (answer_row (as_answer (own_bytes 7 9) (Err Busy)), 6 ∷ 0 ∷ came 7 9)
+    -- the address outputs likewise
+    ∷ (
+      outputs_row (as_outputs (Ok (record { low = 41; high = 38; msl = 12 }))) ++ outputs_row (as_outputs (Err BadState)),
+      0 ∷ 41 ∷ 38 ∷ 12 ∷ 1 ∷ 0 ∷ 0 ∷ 0 ∷ [],
+    )
     -- the address outputs as they are given; bytes that name nothing: 1 and 0
     ∷ (
       joined (λ (k : ℕ). outputs_row (outputs_of (own_bytes 0 0) (place k))) 0 9,

@@ -8,7 +8,8 @@ use Rattle.rules.specs.Sequence.{Work, Idle, Steps, Clear, LightPen, Off, Waitin
 use Rattle.rules.specs.State.{State, regs, flags, state}
 use Rattle.rules.specs.Tables.Rows.{frames_named, frames_told}
 use Rattle.gdp.specs.declared.state.Gdp.{Gdp}
-use Rattle.gdp.specs.Flat.{format_number, format_at, light_pen_number, light_pen_at, work_number, code_of, done_of, fills, work_at, modes_of, flat, named, format_of, frames_in, regs_of, put_regs, state_of}
+use Rattle.parts.specs.Format.{format_number, format_at}
+use Rattle.gdp.specs.Flat.{light_pen_number, light_pen_at, work_number, code_of, done_of, fills, work_at, modes_of, flat, named, format_of, frames_in, regs_of, put_regs, state_of}
 use Rattle.gdp.specs.Tables.Rows.{over, times, bytes, byte_row, regs_row, format_row, work_row, pen_row, state_row}
 
 -- a state whose registers have each their own value, and such bytes

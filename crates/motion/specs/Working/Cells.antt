@@ -1,12 +1,17 @@
 -- A character's cell as the code steps it.
 -- Assumes nothing.
-use Rattle.std.specs.Prelude.{◌≡◌, ◌*◌, ◌/◌, ◌%◌, ◌≤◌, ◌<◌}
+use Rattle.std.specs.Prelude.{◌≡◌, ℕ, ◌*◌, ◌/◌, ◌%◌, ◌≤◌, ◌<◌}
 use Rattle.motion.specs.declared.position.Spot.{Spot}
 use Rattle.motion.specs.declared.character.Body.{Body}
 use Rattle.motion.specs.declared.character.Lie.{Lie}
 use Rattle.motion.specs.declared.character.Cell.{Cell}
 use Rattle.motion.specs.Position.{moved}
-use Rattle.motion.specs.Character.{u_of, v_of, column_of, row_of, body_way}
+use Rattle.motion.specs.Character.{scale_p, scale_q, u_of, v_of, column_of, row_of, body_way}
+
+-- the body of a CSIZE that is so many times P wide and so many times Q high
+abbrev pub body_by : ℕ → ℕ → ℕ → Body
+body_by csize wide high =
+    record { p = scale_p csize; q = scale_q csize; columns = wide * scale_p csize; rows = high * scale_q csize }
 
 -- sizes that CSIZE can give: each row of the glyph is Q rows of dots
 pub record Sized (b : Body) : Type 0 where

@@ -9,8 +9,7 @@ use Rattle.rules.specs.Figure.{tables}
 use Rattle.rules.specs.Calls.{memory}
 use Rattle.rules.specs.Card.{Card}
 use Rattle.gdp.specs.Tables.Rows.{over, state_row}
-use Rattle.panel.specs.declared.parse.Record.{Record}
-use Rattle.panel.specs.declared.parse.Record.TheVariants.{Write, Read, Cycles, Blanking, Edge, Malformed}
+use Rattle.panel.specs.Record.{Record, Write, Read, Cycles, Blanking, Edge, Malformed}
 use Rattle.panel.specs.Answer.{line_g, line_r, line_t, line_e, line_p, answered}
 use Rattle.panel.specs.Panel.{card, card_after, answer_to, answers, shown, dot_lines, panel, longest}
 

@@ -3,8 +3,7 @@
 -- Assumes nothing.
 use Rattle.std.specs.Prelude.{ℕ, ◌+◌, ◌*◌, ◌/◌, ◌%◌, List, [], ◌∷◌, ◌++◌, get_or, replicate}
 use Rattle.basis.specs.Reading.{Reading, each, joined, told}
-use Rattle.panel.specs.declared.parse.Record.{Record}
-use Rattle.panel.specs.declared.parse.Record.TheVariants.{Write, Read, Cycles, Blanking, Edge, Malformed}
+use Rattle.panel.specs.Record.{Record, Write, Read, Cycles, Blanking, Edge, Malformed}
 use Rattle.panel.specs.Record.{letter_of, record_of}
 
 -- a record as three numbers: 1 for W, 2 R, 3 T, 4 V, 5 L, with its own two; a malformed line is three zeros

@@ -1,6 +1,6 @@
--- Readings of the formats, the commands' kinds and the refusals' order.
+-- Readings of the formats and their numbers, the commands' kinds, and the refusals' order and numbers.
 -- Assumes nothing.
-use Rattle.std.specs.Prelude.{ℕ, true, false, List, [], ◌∷◌, ◌++◌, map, replicate}
+use Rattle.std.specs.Prelude.{ℕ, true, false, List, [], ◌∷◌, ◌++◌, map, replicate, ◌+◌, Result, Ok, Err}
 use Rattle.basis.specs.Reading.{Reading, each, told}
 use Rattle.picture.specs.Bit.{bit_at}
 use Rattle.picture.specs.declared.screen.Window.{Window}
@@ -8,9 +8,11 @@ use Rattle.parts.specs.declared.format.Format.{Format}
 use Rattle.parts.specs.declared.format.Format.TheVariants.{Ef9366, FmatHigh, FmatLow}
 use Rattle.parts.specs.declared.command.Kind.{Kind}
 use Rattle.parts.specs.declared.command.Kind.TheVariants.{NoCycle, OneCycle, Vector, Character, Block}
-use Rattle.parts.specs.Format.{width, height, window, bytes, frames, width_bits, height_bits}
+use Rattle.parts.specs.declared.refusal.Refusal.{Refusal}
+use Rattle.parts.specs.declared.refusal.Refusal.TheVariants.{BadState, BadPicture, BadTable, BadAddress, ReadOnly, Busy, OffScreen, ShortBuffer, NoPbm, OtherSize, BadDots, NoRecord, LongLog}
+use Rattle.parts.specs.Format.{format_number, format_at, format_named, width, height, window, bytes, frames, width_bits, height_bits}
 use Rattle.parts.specs.Command.{kind, lettering, lining, prompting}
-use Rattle.parts.specs.Refusal.{lowest}
+use Rattle.parts.specs.Refusal.{lowest, refusal_number}
 
 -- width, height, bytes, frames of a clear, bits of X, bits of Y
 unfoldable pub formatted : Format → List ℕ
@@ -31,6 +33,20 @@ formats =
     ∷ (seen (window FmatHigh true), 512 ∷ 512 ∷ 1 ∷ [])
     ∷ (seen (window FmatLow false), 256 ∷ 256 ∷ 0 ∷ [])
     ∷ (seen (window FmatLow true), 256 ∷ 256 ∷ 1 ∷ [])
+    ∷ []
+
+-- a format by its number, and what is refused by 100 and the refusal's
+unfoldable pub numbered : Result Format Refusal → ℕ
+numbered (Ok f) = format_number f
+numbered (Err why) = 100 + refusal_number why
+
+-- 0 EF9366, 1 FMAT high, 2 FMAT low, each back from its number; any other of the 256 bytes is refused with 1
+unfoldable pub format_numbers : List Reading
+format_numbers =
+    (map format_number (Ef9366 ∷ FmatHigh ∷ FmatLow ∷ []), 0 ∷ 1 ∷ 2 ∷ [])
+    ∷ (each (λ n. numbered (format_named n)) 0 256, 0 ∷ 1 ∷ 2 ∷ replicate 253 101)
+    -- where a number of none has to stand for one, that is FMAT low
+    ∷ (each (λ n. format_number (format_at n)) 0 256, 0 ∷ 1 ∷ replicate 254 2)
     ∷ []
 
 -- the kinds by a number of their own
@@ -74,4 +90,11 @@ refusals =
       lowest ((1, false) ∷ (2, false) ∷ (3, false) ∷ (4, false) ∷ (5, false) ∷ (6, false) ∷ (7, false) ∷ (8, true) ∷ []) ∷ [],
       8 ∷ [],
     )
+    ∷ []
+
+-- the refusals of the card, of a PBM and of the panel program, in the order of their numbers; none has 7
+unfoldable pub refusal_numbers : List Reading
+refusal_numbers =
+    (map refusal_number (BadState ∷ BadPicture ∷ BadTable ∷ BadAddress ∷ ReadOnly ∷ Busy ∷ OffScreen ∷ []), 1 ∷ 2 ∷ 3 ∷ 4 ∷ 5 ∷ 6 ∷ 8 ∷ [])
+    ∷ (map refusal_number (ShortBuffer ∷ NoPbm ∷ OtherSize ∷ BadDots ∷ NoRecord ∷ LongLog ∷ []), 9 ∷ 10 ∷ 11 ∷ 12 ∷ 20 ∷ 21 ∷ [])
     ∷ []

@@ -1,13 +1,15 @@
 -- Both calls said another way, by a format's own numbers, and examples of them. 48 and 49 are the signs 0 and 1, 10 is LF, 13 CR,
 -- 35 #, 80 P.
 -- Assumes nothing.
-use Rattle.std.specs.Prelude.{ℕ, cond, List, [], ◌∷◌, ◌++◌, eqb, ltb, length, replicate, take, drop}
+use Rattle.std.specs.Prelude.{ℕ, cond, Ok, Err, List, [], ◌∷◌, ◌++◌, eqb, ltb, length, replicate, take, drop}
 use Rattle.basis.specs.Reading.{Reading, joined, told}
 use Rattle.parts.specs.declared.format.Format.{Format}
 use Rattle.parts.specs.declared.format.Format.TheVariants.{Ef9366, FmatHigh, FmatLow}
 use Rattle.pbm.specs.File.{file}
 use Rattle.pbm.specs.Contents.{opens, sized_as, from_dots, taken, are_dots, shown}
-use Rattle.pbm.specs.Calls.{Outcome, refused, settled, misfit, file_of, out_number, written_out, signs_for, in_number, read_in}
+use Rattle.parts.specs.declared.refusal.Refusal.TheVariants.{ShortBuffer, BadDots}
+use Rattle.pbm.specs.declared.answer.Answer.{Answer}
+use Rattle.pbm.specs.Calls.{Outcome, refused, settled, misfit, file_of, out_number, written_out, signs_for, in_number, read_in, told as answered, told_read}
 use Rattle.pbm.specs.Tables.Texts.{p1, n512, n256}
 
 -- The calls by numbers ------------------------------------------------------------------------------------------------
@@ -39,6 +41,10 @@ in_by w h n d text picture =
 unfoldable pub outcome : Outcome → List ℕ
 outcome o = o.number ∷ o.value ∷ o.memory
 
+-- an answer as C is told it: its number and its value
+unfoldable pub answer_row : Answer → List ℕ
+answer_row r = r.number ∷ r.value ∷ []
+
 -- the three formats
 unfoldable pub formats : List Format
 formats = Ef9366 ∷ FmatHigh ∷ FmatLow ∷ []
@@ -57,6 +63,9 @@ outcome_readings =
       joined (λ (n : ℕ). n ∷ 0 ∷ 3 ∷ 4 ∷ []) 1 12,
     )
     ∷ (outcome (refused 9 (3 ∷ 4 ∷ [])) ++ outcome (refused 21 []), 9 ∷ 0 ∷ 3 ∷ 4 ∷ 21 ∷ 0 ∷ [])
+    -- told: number 0 and the value, which reading has not; a refusal's number and 0
+    ∷ (answer_row (answered (Ok 5)) ++ answer_row (answered (Err ShortBuffer)), 0 ∷ 5 ∷ 9 ∷ 0 ∷ [])
+    ∷ (answer_row (told_read (Ok tt)) ++ answer_row (told_read (Err BadDots)), 0 ∷ 0 ∷ 12 ∷ 0 ∷ [])
     -- 2: a picture of no bytes, or of one, fits no format
     ∷ (over_formats formats (λ (f : Format). told (misfit f []) ∷ told (misfit f (0 ∷ [])) ∷ []), replicate 6 1)
     -- the file's head

@@ -1,8 +1,8 @@
 -- Digits and numbers as text, read and written: 48 to 57 are 0 to 9, 65 to 70 are A to F.
 -- Assumes nothing.
-use Rattle.std.specs.Prelude.{ℕ, suc, ◌+◌, ◌-◌, ◌*◌, ◌/◌, ◌%◌, List, [], ◌∷◌, ◌++◌, replicate}
+use Rattle.std.specs.Prelude.{ℕ, suc, ◌+◌, ◌-◌, ◌*◌, ◌/◌, ◌%◌, List, [], ◌∷◌, ◌++◌, replicate, unwrap_or}
 use Rattle.basis.specs.Reading.{Reading, each, joined, told}
-use Rattle.text.specs.Numbers.{digit_value, is_number, number_from, hex_digit, decimal_by, decimal}
+use Rattle.text.specs.Numbers.{digit_value, digit_of, is_number, number_from, hex_digit, decimal_by, decimal}
 
 -- the k numbers from i on
 unfoldable pub counted : ℕ → ℕ → List ℕ
@@ -22,6 +22,12 @@ digits =
     -- the values: capitals only, any other byte counts 16
     (
       each digit_value 0 300,
+      replicate 48 16 ++ (counted 0 10 ++ (replicate 7 16 ++ (counted 10 6 ++ replicate 229 16))),
+    )
+    -- of base 10 and of base 16 alone, and 16 of any other byte
+    ∷ (each (λ (b : ℕ). unwrap_or (digit_of 10 b) 16) 0 300, replicate 48 16 ++ (counted 0 10 ++ replicate 242 16))
+    ∷ (
+      each (λ (b : ℕ). unwrap_or (digit_of 16 b) 16) 0 300,
       replicate 48 16 ++ (counted 0 10 ++ (replicate 7 16 ++ (counted 10 6 ++ replicate 229 16))),
     )
     -- written: 0 to 9, A to F

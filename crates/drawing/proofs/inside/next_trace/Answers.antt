@@ -8,18 +8,18 @@ use Rattle.drawing.specs.Working.Inside.{onward}
 use Rattle.drawing.proofs.Traces.{trace_next, trace_last, either_most}
 use Rattle.drawing.proofs.inside.next_trace.Goals as goal
 
-pub returns-then-l-s : goal.returns-then-l-s
-returns-then-l-s c =
+pub returns-then-v-s : goal.returns-then-v-s
+returns-then-v-s c =
     let a = c.args in
-    (refl, λ w h x y go sh on. trace_last a.l w h x y a.s c.if-l-s.true on)
+    (refl, λ w h x y go sh on. trace_last a.v.line w h x y a.s c.if-v-s.true on)
 
 pub hopped-h-requires : goal.hopped-h-requires
 hopped-h-requires c =
     let a = c.args in
-    omega (arith, error_lt a.l.long a.l.short a.s.i (omega arith))
+    omega (arith, error_lt a.v.line.long a.v.line.short a.s.i (omega arith))
 
-pub overflow_add-result-2 : goal.overflow_add-result-2
-overflow_add-result-2 c =
+pub overflow_add-result : goal.overflow_add-result
+overflow_add-result c =
     omega (
       arith,
       c.hop_stride-n.ensures,
@@ -31,6 +31,6 @@ pub returns : goal.returns
 returns c = (
   refl,
   λ w k x y go sh on.
-      trace_next c.args.l w k x y c.requires.lengths.0 c.args.by c.args.s go sh c.if-l-s.false c.requires.lengths.2
+      trace_next c.args.v.line w k x y c.args.v.lengths c.args.by c.args.s go sh c.if-v-s.false c.requires.error_value.1
       c.hopped-h.ensures.0 c.hopped-h.ensures.1 (ap (onward c.args.s.dot) c.hop_stride-n.ensures) on,
 )

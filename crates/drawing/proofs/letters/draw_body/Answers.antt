@@ -31,41 +31,18 @@ ran t lie b glyph run first last p q size most number at end f =
       picture = f.picture start at ∙ rw (count, number);
     }
 
-pub overflow_add-end : goal.overflow_add-end
-unfolding cycles_of
-overflow_add-end c =
-    omega (arith, c.requires.sized.3.most, c.requires.sized.1)
-
-pub by_cells-c-requires : goal.by_cells-c-requires
-unfolding cycles_of
-by_cells-c-requires c =
-    let e = c.cell_at-first.ensures in
-    record {
-      screen = c.requires.screen;
-      sized = (c.requires.sized.0, e.1, c.requires.sized.2, omega (arith, e.0), omega (arith, c.requires.sized.3.most, c.requires.sized.1));
-    }
-
-pub by_columns-c-requires : goal.by_columns-c-requires
-unfolding cycles_of
-by_columns-c-requires c =
-    let e = c.cell_at-first.ensures in
-    record {
-      screen = c.requires.screen;
-      sized = (c.requires.sized.0, e.1, c.requires.sized.2, omega (arith, e.0), omega (arith, c.requires.sized.3.most, c.requires.sized.1));
-    }
-
-pub returns-then-run-b : goal.returns-then-run-b
+pub returns-then-run-letter : goal.returns-then-run-letter
 unfolding start_of way cycles_of
-returns-then-run-b c =
+returns-then-run-letter c =
     let a = c.args in
     let e = c.cell_at-first.ensures in
-    ran a.t a.lie a.b a.glyph.now a.run c.cell_at-first.result c.by_cells-c.result _ _ c.requires.sized.0
-    c.requires.sized.3.most e.0 (e.2 a.lie) c.by_cells-c.ensures.0 c.by_cells-c.ensures.1
+    ran a.t a.letter.lie a.letter.body a.glyph.now a.run c.cell_at-first.result c.draw_cells.result _ _ a.letter.sized
+    c.requires.granted.1.most e.0 (e.2 a.letter.lie) c.draw_cells.ensures.0 c.draw_cells.ensures.1
 
 pub returns : goal.returns
 unfolding start_of way cycles_of
 returns c =
     let a = c.args in
     let e = c.cell_at-first.ensures in
-    ran a.t a.lie a.b a.glyph.now a.run c.cell_at-first.result c.by_columns-c.result _ _ c.requires.sized.0
-    c.requires.sized.3.most e.0 (e.2 a.lie) c.by_columns-c.ensures.0 c.by_columns-c.ensures.1
+    ran a.t a.letter.lie a.letter.body a.glyph.now a.run c.cell_at-first.result c.draw_cells-2.result _ _ a.letter.sized
+    c.requires.granted.1.most e.0 (e.2 a.letter.lie) c.draw_cells-2.ensures.0 c.draw_cells-2.ensures.1

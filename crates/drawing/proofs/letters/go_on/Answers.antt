@@ -6,29 +6,29 @@ use Rattle.drawing.proofs.Further.{within, one_further, column_further}
 use Rattle.drawing.proofs.letters.go_on.Goals as goal
 
 pub draw_column-requires : goal.draw_column-requires
-draw_column-requires c =
+draw_column-requires g c =
     let w = c.is_whole.ensures c.if-is_whole.true in
     record {
       screen = c.requires.screen;
-      sized = (c.requires.sized.0, c.requires.sized.1, c.requires.sized.2, w.column);
+      foot = (c.requires.counts.0, w.column);
     }
 
 pub next_column-requires : goal.next_column-requires
-next_column-requires c =
+next_column-requires g c =
     let w = c.is_whole.ensures c.if-is_whole.true in
-    (c.requires.sized.0, c.requires.sized.1, w.column.foot, w.column.first, omega (arith, w.granted))
+    (c.requires.counts.0, w.column.foot, w.column.first, omega (arith, w.granted))
 
 pub returns-then-is_whole : goal.returns-then-is_whole
-returns-then-is_whole c =
+returns-then-is_whole g c =
     let w = c.is_whole.ensures c.if-is_whole.true in
-    let size = c.requires.sized.0 in
+    let size = c.args.letter.sized in
     let next = c.next_column.ensures in
     let some = mul-le-mul size.p0 size.rows0 in
     (omega (arith, next.0, some), within (omega (arith, next.0, w.granted)) (column_further c.draw_column.ensures next))
 
 pub returns : goal.returns
-returns c =
+returns g c =
     let next = c.next_cell.ensures in (
       omega (arith, next.0),
-      within (omega (arith, next.0)) (one_further c.requires.sized.1 c.has_ink-on.ensures c.touch.ensures next),
+      within (omega (arith, next.0)) (one_further c.requires.counts.0 c.has_ink-on.ensures c.touch.ensures next),
     )

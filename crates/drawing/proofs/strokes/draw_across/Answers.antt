@@ -4,7 +4,6 @@ use mathlib.Core.Path.{◌≡◌, ◌∙◌}
 use Prim.Native.Nat.{◌+◌, ◌≤◌}
 use native.Mathlib.Nat.{min-eq_left}
 use native.Mathlib.Omega.{arith}
-use borrow.Author.Rules.{rules}
 use Rattle.motion.specs.Position.{moved, moved_back}
 use Rattle.motion.specs.Vector.{vector_cycles}
 use Rattle.drawing.specs.Figure.{Stroke, cycles_of, way, writes}
@@ -17,50 +16,47 @@ use Rattle.drawing.proofs.strokes.draw_across.Goals as goal
 pub stroke_at-s-requires : goal.stroke_at-s-requires
 unfolding cycles_of vector_cycles
 stroke_at-s-requires c =
-    let g = c.requires.lengths.1 in
-    (c.requires.lengths.0, omega (arith, g.some), g.x, g.y)
+    let g = c.requires.granted in
+    (omega (arith, g.some), g.x, g.y)
 
-pub loop-k-init : goal.loop-k-init
-loop-k-init c = (search rules, c.stroke_at-s.ensures.1, none c.stroke_at-s.ensures.0)
+pub loop-init : goal.loop-init
+loop-init c = (c.stroke_at-s.ensures.1, none c.stroke_at-s.ensures.0)
 
 pub is_on-on-requires : goal.is_on-on-requires
 is_on-on-requires c = c.line_type-kind.ensures.0
 
 pub touch-requires : goal.touch-requires
 touch-requires c =
-    still c.loop-k.invariant.2 c.requires.screen
+    still c.loop.invariant.1 c.requires.screen
 
 pub next_dot-s-requires : goal.next_dot-s-requires
 unfolding cycles_of vector_cycles
 next_dot-s-requires c =
-    let within : c.loop-k.s.i ≤ c.args.l.long = omega (arith, c.requires.lengths.1.most) in
-    record {
-      lengths = (c.requires.lengths.0, within);
-      error_value = rw (min-eq_left within) at c.loop-k.invariant.1.error;
-    }
+    let within : c.loop.s.i ≤ c.args.v.line.long = omega (arith, c.requires.granted.most) in
+    (within, rw (min-eq_left within) at c.loop.invariant.0.error)
 
-pub loop-k-preserved : goal.loop-k-preserved
+pub loop-preserved : goal.loop-preserved
 unfolding cycles_of vector_cycles
-loop-k-preserved c =
+loop-preserved c =
     let a = c.args in
-    let inv = c.loop-k.invariant in
+    let inv = c.loop.invariant in
     let next = c.next_dot-s.ensures in
-    let on = c.is_on-on.ensures ∙ c.line_type-kind.ensures.1 c.loop-k.s.i in
-    let here = vector_here a.t a.ctrl2 inv.1 (omega (arith, c.requires.lengths.1.most)) on in
-    (omega arith, next.1 _ _ inv.1, more inv.2 next.0 here c.touch.ensures)
+    let on = c.is_on-on.ensures ∙ c.line_type-kind.ensures.1 c.loop.s.i in
+    let here = vector_here a.t a.ctrl2 inv.0 (omega (arith, c.requires.granted.most)) on in
+    (next.1 _ _ inv.0, more inv.1 next.0 here c.touch.ensures)
 
 pub shape_of-pic : goal.shape_of-pic
-shape_of-pic c = size c.loop-k.invariant.2
+shape_of-pic c = size c.loop.invariant.1
 
 pub returns : goal.returns
 unfolding start_of moved_back way cycles_of vector_cycles dots_from dot_of place_of moved writes vector_dot
 returns c glyph =
     let a = c.args in
-    let all : c.loop-k.k ≡ a.run.count = omega arith in
-    let inv = rw all at c.loop-k.invariant in
+    let all : c.loop.counter ≡ a.run.count = omega arith in
+    let inv = rw all at c.loop.invariant in
     record {
       rests =
-          stroke_rests a.ctrl2 a.l (start_of (Stroke a.ctrl2 a.l) a.run.from a.run.at) (a.run.from + a.run.count)
-          c.requires.lengths.1.most (rw inv.2.number at inv.1.x) (rw inv.2.number at inv.1.y);
-      picture = inv.2.picture;
+          stroke_rests a.ctrl2 a.v.line (start_of (Stroke a.ctrl2 a.v.line) a.run.from a.run.at) (a.run.from + a.run.count)
+          c.requires.granted.most (rw inv.1.number at inv.0.x) (rw inv.1.number at inv.0.y);
+      picture = inv.1.picture;
     }

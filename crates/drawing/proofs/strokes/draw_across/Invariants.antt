@@ -1,7 +1,5 @@
--- `drawing::strokes::draw_across`: the loop's invariant: the stroke is on its dot, and the cycles so far are done. The measure is the
--- cycles left.
+-- `drawing::strokes::draw_across`: the loop's invariant: the stroke is on its dot, and the cycles so far are done.
 -- Assumes nothing.
-use Prim.Native.Nat.{◌-◌, ◌≤◌}
 use Rattle.motion.specs.Position.{behind}
 use Rattle.motion.specs.Vector.{vector_x, vector_y}
 use Rattle.motion.specs.Working.Strokes.{OnDot}
@@ -9,11 +7,8 @@ use Rattle.drawing.specs.Working.Cycle.{vector_dot}
 use Rattle.drawing.proofs.Runs.{Done}
 use Rattle.drawing.proofs.strokes.draw_across.Given as goal
 
-abbrev pub invariant-loop-k : goal.invariant-loop-k
-invariant-loop-k l =
-    let x₀ = behind l.run.at.x (vector_x l.l l.run.from) in
-    let y₀ = behind l.run.at.y (vector_y l.l l.run.from) in
-    (l.k ≤ l.run.count) × OnDot l.l x₀ y₀ l.s × Done l.t.lit (vector_dot l.t l.ctrl2 l.l x₀ y₀) l.run.from l.initial.pic l.k l.s.i l.pic
-
-abbrev pub decreases-loop-k : goal.decreases-loop-k
-decreases-loop-k l = l.run.count - l.k
+abbrev pub invariant-loop : goal.invariant-loop
+invariant-loop l =
+    let x₀ = behind l.fn.run.at.x (vector_x l.v.line l.fn.run.from) in
+    let y₀ = behind l.fn.run.at.y (vector_y l.v.line l.fn.run.from) in
+    OnDot l.v.line x₀ y₀ l.s × Done l.t.lit (vector_dot l.t l.ctrl2 l.v.line x₀ y₀) l.fn.run.from l.initial.pic l.counter l.s.i l.pic

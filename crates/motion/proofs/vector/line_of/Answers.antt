@@ -1,21 +1,9 @@
--- `motion::vector::line_of` meets its contract: each branch puts the definition's record together from its parts.
+-- `motion::vector::line_of` meets its contract: the definition's own record, part by part.
 -- Assumes nothing.
 use native.Mathlib.Omega.{arith}
-use Rattle.motion.proofs.Vectors.{line_steep, line_flat}
+use Rattle.motion.specs.Vector.{given_x, given_y, length_x, length_y, minus_x, minus_y, line_of}
 use Rattle.motion.proofs.vector.line_of.Goals as goal
 
-pub returns-then-across-up : goal.returns-then-across-up
-returns-then-across-up c =
-    let a = c.args in (
-      line_steep a.code a.dx a.dy c.length_x-across.ensures c.length_y-up.ensures
-          c.minus_x-left.ensures c.minus_y-down.ensures c.if-across-up.true,
-      record { order = omega arith; small = omega arith },
-    )
-
-pub returns-else-across-up : goal.returns-else-across-up
-returns-else-across-up c =
-    let a = c.args in (
-      line_flat a.code a.dx a.dy c.length_x-across.ensures c.length_y-up.ensures
-          c.minus_x-left.ensures c.minus_y-down.ensures c.if-across-up.false,
-      record { order = omega arith; small = omega arith },
-    )
+pub returns : goal.returns
+unfolding line_of length_x length_y given_x given_y minus_x minus_y
+returns c = (cc, record { order = omega arith; small = omega arith })

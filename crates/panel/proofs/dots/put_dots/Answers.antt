@@ -3,21 +3,20 @@
 use mathlib.Core.Path.{◌≡◌}
 use native.Mathlib.Omega.{arith}
 use Rattle.panel.specs.Panel.{dot_lines}
-use Rattle.text.proofs.Laws.{wrote_none, wrote_more}
+use Rattle.text.proofs.Laws.{writes_none, writes_more}
 use Rattle.panel.proofs.DotLines.{lines_byte}
 use Rattle.panel.proofs.dots.put_dots.Goals as goal
 
 pub loop-i-init : goal.loop-i-init
 unfolding dot_lines
-loop-i-init c = (omega arith, wrote_none, omega arith)
+loop-i-init c = (writes_none, omega arith)
 
 pub loop-i-preserved : goal.loop-i-preserved
 loop-i-preserved c =
     let text = lines_byte c.args.pic.now c.loop-i.i in
-    (omega arith, rw text (wrote_more c.loop-i.invariant.1 c.put_byte-r.ensures.0), omega arith)
+    (rw text (writes_more c.loop-i.invariant.0 c.put_byte.ensures.0), omega arith)
 
 pub returns : goal.returns
 returns c =
     let all : c.loop-i.i ≡ 16384 = omega arith in
-    let inv = rw all at c.loop-i.invariant in
-    (inv.1, inv.2)
+    rw all at c.loop-i.invariant

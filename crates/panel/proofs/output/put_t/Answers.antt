@@ -2,12 +2,12 @@
 -- Assumes nothing.
 use native.Mathlib.Omega.{arith}
 use Rattle.panel.specs.Answer.{line_t}
-use Rattle.text.proofs.Laws.{wrote_more, wrote_within}
+use Rattle.text.proofs.Laws.{writes_more, writes_within}
 use Rattle.panel.proofs.LineLengths.{line_t_length}
 use Rattle.panel.proofs.output.put_t.Goals as goal
 
 pub returns : goal.returns
 unfolding line_t
 returns c =
-    wrote_within (line_t_length _ (omega arith))
-    (wrote_more c.put_letter-a.ensures (wrote_more c.put_decimal-b.ensures.0 c.put.ensures))
+    rw (← c.from.ensures) (writes_within (line_t_length _ (omega arith))
+    (writes_more c.put_letter.ensures (writes_more c.put_decimal.ensures.0 c.put.ensures)))

@@ -1,33 +1,33 @@
 -- `panel::parse::parse_two` meets its contract: what each letter makes of its two fields.
 -- Assumes nothing.
-use mathlib.Core.Path.{sym, ◌∙◌}
-use Rattle.panel.proofs.Records.{other_two}
-use Rattle.panel.proofs.Letters.{says_write, says_edge}
+use mathlib.Core.Path.{refl, sym}
+use borrow.Author.Rules.{rules}
+use Rattle.panel.proofs.Letters.{says_write, says_edge, other_two}
 use Rattle.panel.proofs.parse.parse_two.Goals as goal
 
-pub returns-then-a-v : goal.returns-then-a-v
-returns-then-a-v c =
-    sym
-    (says_write _ _ _ _ _ _ _ c.if-letter-eq87.true c.number_of-a.ensures c.number_of-v.ensures
-    ∙ rw c.if-a-v.true)
+pub returns-in_err-address-in-87 : goal.returns-in_err-address-in-87
+returns-in_err-address-in-87 c =
+    rw (c.from_residual.ensures, c.in-87.is, says_write, ← c.in_err-address-in-87.ensures) refl
 
-pub returns-then-letter-eq87 : goal.returns-then-letter-eq87
-returns-then-letter-eq87 c =
-    sym
-    (says_write _ _ _ _ _ _ _ c.if-letter-eq87.true c.number_of-a.ensures c.number_of-v.ensures
-    ∙ rw c.if-a-v.false)
+pub returns-in_err-value-in-87 : goal.returns-in_err-value-in-87
+returns-in_err-value-in-87 c =
+    rw (c.from_residual-in_err-value-in-87.ensures, c.in-87.is, says_write, ← c.in_ok-address-in-87.ensures, ← c.in_err-value-in-87.ensures) refl
 
-pub returns-then-h-v : goal.returns-then-h-v
-returns-then-h-v c =
-    sym
-    (says_edge _ _ _ _ _ _ _ c.if-letter-eq76.true c.number_of-h.ensures c.number_of-v-then-letter-eq76.ensures
-    ∙ rw c.if-h-v.true)
+pub returns-in_ok-value-in-87 : goal.returns-in_ok-value-in-87
+returns-in_ok-value-in-87 c =
+    rw (c.in-87.is, says_write, ← c.in_ok-address-in-87.ensures, ← c.in_ok-value-in-87.ensures) refl
 
-pub returns-then-letter-eq76 : goal.returns-then-letter-eq76
-returns-then-letter-eq76 c =
-    sym
-    (says_edge _ _ _ _ _ _ _ c.if-letter-eq76.true c.number_of-h.ensures c.number_of-v-then-letter-eq76.ensures
-    ∙ rw c.if-h-v.false)
+pub returns-in_err-h-in-76 : goal.returns-in_err-h-in-76
+returns-in_err-h-in-76 c =
+    rw (c.from_residual-in_err-h-in-76.ensures, c.in-76.is, says_edge, ← c.in_err-h-in-76.ensures) refl
 
-pub returns : goal.returns
-returns c = sym (other_two _ _ _ c.if-letter-eq87.false c.if-letter-eq76.false)
+pub returns-in_err-v-in-76 : goal.returns-in_err-v-in-76
+returns-in_err-v-in-76 c =
+    rw (c.from_residual-in_err-v-in-76.ensures, c.in-76.is, says_edge, ← c.in_ok-h-in-76.ensures, ← c.in_err-v-in-76.ensures) refl
+
+pub returns-in_ok-v-in-76 : goal.returns-in_ok-v-in-76
+returns-in_ok-v-in-76 c =
+    rw (c.in-76.is, says_edge, ← c.in_ok-h-in-76.ensures, ← c.in_ok-v-in-76.ensures) refl
+
+pub returns-in_default : goal.returns-in_default
+returns-in_default c = sym (other_two _ _ _ (search rules) (search rules))

@@ -1,15 +1,16 @@
--- `panel::run::play_lines` meets its contract: after each line, what is written and what is still to come are the definition's answers.
+-- `panel::run::play_lines`: what is written and what is still to come are the definition's answers.
 -- Assumes nothing.
 use mathlib.Core.Path.{◌≡◌}
-use Prim.Native.Nat.{◌+◌, ◌-◌}
 use lib.ListN.{length}
+use Rattle.std.specs.Iterator.Adapters.{enumerate_source, enumerate_count}
+use Rattle.text.specs.Pieces.{lines_of}
 use Rattle.panel.specs.Working.Played.{card_at, Tidy}
 use Rattle.panel.proofs.Playing.{Going}
 use Rattle.panel.proofs.run.play_lines.Given as goal
 
-abbrev pub invariant-loop-from : goal.invariant-loop-from
-invariant-loop-from l =
-    Going l.input l.initial.out l.start (card_at l.initial.s l.initial.pic l.table) (card_at l.s l.pic l.table) l.out l.at l.from l.line × (length l.pic ≡ length l.initial.pic) × Tidy l.s
-
-abbrev pub decreases-loop-from : goal.decreases-loop-from
-decreases-loop-from l = length l.input + 1 - l.from
+abbrev pub invariant-loop-k : goal.invariant-loop-k
+invariant-loop-k l =
+    Going (lines_of l.input) (card_at l.initial.s l.initial.pic l.table) l.initial.w
+    (lines_of (enumerate_source l.k-iterator).0.now) (enumerate_count l.k-iterator) (card_at l.s l.pic l.table) l.w
+    × (length l.pic ≡ length l.initial.pic)
+    × Tidy l.s

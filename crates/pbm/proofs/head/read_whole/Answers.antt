@@ -1,19 +1,40 @@
 -- `pbm::head::read_whole` meets its contract.
 -- Assumes nothing.
-use Rattle.pbm.proofs.Wholes.{reading_none, reading_more, reading_stop, reading_end}
+use Rattle.std.proofs.Common.{[], refl, rules}
+use Rattle.std.proofs.Math.ListN.{drop_of_length-le}
+use Rattle.std.proofs.lemmas.List.{drop_more}
+use Rattle.text.proofs.Laws.{digit_some, digit_none}
+use Rattle.pbm.proofs.Passing.{rest_at}
+use Rattle.pbm.proofs.Wholes.{reading_one, reading_more, reading_stop, none_first, other_first}
 use Rattle.pbm.proofs.head.read_whole.Goals as goal
 
-pub loop-i-init : goal.loop-i-init
-loop-i-init c = reading_none c.requires
+pub returns-in_err-first : goal.returns-in_err-first
+returns-in_err-first c = let none = none_first c.args.left.now c.in_err-first.ensures.cases in search rules
 
-pub returns-then-d-ge10 : goal.returns-then-d-ge10
-returns-then-d-ge10 c =
-    reading_stop c.loop-i.invariant c.loop-i-test.true c.digit_value-d.ensures c.if-d-ge10.true
+pub returns-in_err-n : goal.returns-in_err-n
+returns-in_err-n c =
+    let none = other_first c.in_ok-first.ensures.cases.0 (digit_none 10 _ c.in_err-n.ensures) in
+    search rules
+
+pub loop-i-init : goal.loop-i-init
+loop-i-init c = reading_one _ _ _ (digit_some 10 _ _ c.in_ok-n.ensures) c.in_ok-first.ensures.cases.0
+
+pub returns-in_default : goal.returns-in_default
+returns-in_default c =
+    let s = c.in_ok-first.rest.now in
+    let here = drop_more s c.loop-i.i 0 c.loop-i-test.true in
+    rw (rest_at s c.loop-i.i)
+    (reading_stop c.loop-i.invariant (other_first here (digit_none 10 _ c.in_default.ensures)))
+
+pub grown-n-requires : goal.grown-n-requires
+grown-n-requires c = (c.loop-i.invariant.small, (digit_some 10 _ _ c.in-Some.ensures).1)
 
 pub loop-i-preserved : goal.loop-i-preserved
 loop-i-preserved c =
-    reading_more c.loop-i.invariant c.loop-i-test.true c.digit_value-d.ensures c.if-d-ge10.false
-    c.grown-n.ensures
+    reading_more _ _ _ (digit_some 10 _ _ c.in-Some.ensures) c.loop-i.invariant
+    (drop_more c.in_ok-first.rest.now c.loop-i.i 0 c.loop-i-test.true) c.grown-n.ensures
 
 pub returns : goal.returns
-returns c = reading_end c.loop-i.invariant c.loop-i-test.false
+returns c =
+    let end = drop_of_length-le c.in_ok-first.rest.now {i = c.loop-i.i} c.loop-i-test.false in
+    reading_stop (rw end at c.loop-i.invariant) (none_first [] refl)

@@ -1,10 +1,7 @@
--- `pbm::read::show`: the loop's invariant: all lines but the y lowest are shown. The measure is these.
+-- `pbm::read::show`: the loop's invariant: all lines but the y lowest are shown.
 -- Assumes nothing.
 use Rattle.pbm.proofs.Showing.{Showing}
 use Rattle.pbm.proofs.read.show.Given as goal
 
 abbrev pub invariant-loop-y : goal.invariant-loop-y
-invariant-loop-y l = Showing l.file l.from l.n l.h l.pic l.i l.y
-
-abbrev pub decreases-loop-y : goal.decreases-loop-y
-decreases-loop-y l = l.y
+invariant-loop-y l = Showing l.left l.n l.h l.pic l.rest l.y

@@ -1,19 +1,17 @@
 -- `pbm::read::show_line` meets its contract.
 -- Assumes nothing.
-use borrow.Author.Rules.{rules}
-use Rattle.pbm.proofs.Showing.{lined_none, lined_good, lined_more, lined_all}
+use Rattle.std.proofs.Common.{refl}
+use Rattle.pbm.proofs.Eights.{some_eight}
+use Rattle.pbm.proofs.Showing.{lined_none, lined_dots, lined_more}
 use Rattle.pbm.proofs.read.show_line.Goals as goal
 
-pub loop-k-init : goal.loop-k-init
-loop-k-init c = lined_none (search rules)
+pub loop-byte-init : goal.loop-byte-init
+loop-byte-init c = lined_none _ _ _ refl
 
-pub loop-k-preserved : goal.loop-k-preserved
-loop-k-preserved c =
-    let e = c.take_eight-e.ensures in
-    let good = lined_good c.loop-k.invariant c.requires.file_value c.loop-k-test.true e in
-    lined_more c.loop-k.invariant c.loop-k-test.true good e c.put.ensures
+pub unwrap-shown-requires : goal.unwrap-shown-requires
+unwrap-shown-requires c =
+    some_eight _ c.take_eight.result (lined_dots c.loop-byte.invariant c.loop-byte-test.true c.requires) c.take_eight.ensures
 
-pub returns : goal.returns
-returns c =
-    let all = lined_all c.loop-k.invariant c.loop-k-test.false in
-    record { wrote = all.0; stands = all.1 }
+pub loop-byte-preserved : goal.loop-byte-preserved
+loop-byte-preserved c =
+    lined_more c.loop-byte.invariant c.loop-byte-test.true (rw c.unwrap-shown.ensures at c.take_eight.ensures)

@@ -1,11 +1,8 @@
--- `pbm::read::show_line`: the loop's invariant: k bytes are written. The measure is the bytes left.
+-- `pbm::read::show_line`: the loop's invariant: so many bytes of the line are shown.
 -- Assumes nothing.
-use Prim.Native.Nat.{◌-◌}
+use Rattle.std.proofs.Common.{length}
 use Rattle.pbm.proofs.Showing.{Lined}
 use Rattle.pbm.proofs.read.show_line.Given as goal
 
-abbrev pub invariant-loop-k : goal.invariant-loop-k
-invariant-loop-k l = Lined l.file l.from l.initial.pic l.at l.n l.pic l.i l.k
-
-abbrev pub decreases-loop-k : goal.decreases-loop-k
-decreases-loop-k l = l.n - l.k
+abbrev pub invariant-loop-byte : goal.invariant-loop-byte
+invariant-loop-byte l = Lined l.left (length l.initial.line) l.line l.rest l.byte-index

@@ -1,54 +1,15 @@
--- `pbm::signs::byte_of` meets its contract: by what `below` says of each dot, the last first.
+-- `pbm::signs::byte_of` meets its contract: the signs are weighed from the last one on.
 -- Assumes nothing.
-use native.Mathlib.Nat.{add-zero}
-use native.Mathlib.Omega.{arith}
-use Rattle.pbm.specs.Contents.{weighed}
-use Rattle.pbm.proofs.Taking.{eight, dot_at}
+use Rattle.std.proofs.Common.{sym, ◌∙◌, rules}
+use Rattle.pbm.proofs.Eights.{weighed_none, next_weighed, weighed_more}
 use Rattle.pbm.proofs.signs.byte_of.Goals as goal
 
-pub below-h-requires : goal.below-h-requires
-below-h-requires c =
-    (dot_at c.args.file.now c.args.at 8 7 c.requires.0 c.requires.1 (omega arith), omega arith)
+pub loop-b-init : goal.loop-b-init
+loop-b-init c = search (rules, weighed_none)
 
-pub below-g-requires : goal.below-g-requires
-below-g-requires c =
-    (dot_at c.args.file.now c.args.at 8 6 c.requires.0 c.requires.1 (omega arith), omega arith)
+pub below-byte-requires : goal.below-byte-requires
+below-byte-requires c =
+    next_weighed _ _ c.loop-b.invariant c.in-Some.ensures.steps c.told-signs (sym c.are_eight.ensures ∙ c.if-not-are_eight.false)
 
-pub below-f-requires : goal.below-f-requires
-below-f-requires c =
-    (dot_at c.args.file.now c.args.at 8 5 c.requires.0 c.requires.1 (omega arith), omega arith)
-
-pub below-e-requires : goal.below-e-requires
-below-e-requires c =
-    (dot_at c.args.file.now c.args.at 8 4 c.requires.0 c.requires.1 (omega arith), omega arith)
-
-pub below-d-requires : goal.below-d-requires
-below-d-requires c =
-    (dot_at c.args.file.now c.args.at 8 3 c.requires.0 c.requires.1 (omega arith), omega arith)
-
-pub below-c-requires : goal.below-c-requires
-below-c-requires c =
-    (dot_at c.args.file.now c.args.at 8 2 c.requires.0 c.requires.1 (omega arith), omega arith)
-
-pub below-b-requires : goal.below-b-requires
-below-b-requires c =
-    (dot_at c.args.file.now c.args.at 8 1 c.requires.0 c.requires.1 (omega arith), omega arith)
-
-pub below-requires : goal.below-requires
-below-requires c =
-    (rw add-zero at (dot_at c.args.file.now c.args.at 8 0 c.requires.0 c.requires.1 (omega arith)), omega arith)
-
-pub returns : goal.returns
-unfolding weighed
-returns c =
-    rw (
-      eight c.args.file.now c.args.at c.requires.0,
-      c.below.ensures.0,
-      c.below-b.ensures.0,
-      c.below-c.ensures.0,
-      c.below-d.ensures.0,
-      c.below-e.ensures.0,
-      c.below-f.ensures.0,
-      c.below-g.ensures.0,
-      c.below-h.ensures.0,
-    )
+pub loop-b-preserved : goal.loop-b-preserved
+loop-b-preserved c = weighed_more _ _ c.loop-b.invariant c.in-Some.ensures.steps c.below-byte.ensures

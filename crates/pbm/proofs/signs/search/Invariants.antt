@@ -1,11 +1,7 @@
--- `pbm::signs::search`: the loop's invariant: k of the signs are found, all dots. The measure is the signs left.
+-- `pbm::signs::search`: the loop's invariant: so many of the signs are found.
 -- Assumes nothing.
-use Prim.Native.Nat.{◌-◌}
 use Rattle.pbm.proofs.Eights.{Sought}
 use Rattle.pbm.proofs.signs.search.Given as goal
 
-abbrev pub invariant-loop-k : goal.invariant-loop-k
-invariant-loop-k l = Sought l.file l.from l.byte l.weight l.k l.i
-
-abbrev pub decreases-loop-k : goal.decreases-loop-k
-decreases-loop-k l = 8 - l.k
+abbrev pub invariant-loop-sign : goal.invariant-loop-sign
+invariant-loop-sign l = Sought l.left l.sign-items l.rest l.sign-index

@@ -1,12 +1,16 @@
--- `pbm::write::put_eight` meets its contract: the signs, one behind the other, are the byte's.
+-- `pbm::write::put_eight` meets its contract.
 -- Assumes nothing.
-use Rattle.text.proofs.Laws.{wrote_more}
+use Rattle.std.proofs.Common.{◌≡◌, arith}
+use Rattle.text.proofs.Laws.{writes_more}
 use Rattle.pbm.specs.Working.Bytes.{eight_signs}
+use Rattle.pbm.proofs.Files.{next_sign}
 use Rattle.pbm.proofs.write.put_eight.Goals as goal
+
+pub loop-k-preserved : goal.loop-k-preserved
+loop-k-preserved c = rw (next_sign c.args.v c.loop-k.k c.loop-k-test.true) (writes_more c.loop-k.invariant c.put_sign.ensures)
 
 pub returns : goal.returns
 unfolding eight_signs
 returns c =
-    wrote_more c.put_sign-a.ensures (wrote_more c.put_sign-b.ensures (wrote_more c.put_sign-c.ensures
-    (wrote_more c.put_sign-d.ensures (wrote_more c.put_sign-e.ensures (wrote_more c.put_sign-f.ensures
-    (wrote_more c.put_sign-g.ensures c.put_sign.ensures))))))
+    let all : c.loop-k.k ≡ 8 = omega arith in
+    rw all at c.loop-k.invariant

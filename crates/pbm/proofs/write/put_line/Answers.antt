@@ -1,24 +1,25 @@
 -- `pbm::write::put_line` meets its contract.
 -- Assumes nothing.
-use mathlib.Core.Path.{◌≡◌}
-use native.Mathlib.Omega.{arith}
-use Rattle.text.proofs.Laws.{wrote_none, wrote_more}
+use Rattle.std.proofs.Common.{◌*◌, arith}
+use Rattle.text.proofs.Laws.{writes_none, writes_more}
 use Rattle.pbm.specs.File.{signs}
-use Rattle.pbm.specs.Working.Bytes.{eight_signs}
-use Rattle.pbm.proofs.Files.{signs_byte}
+use Rattle.pbm.proofs.Files.{signs_byte, signs_length}
 use Rattle.pbm.proofs.write.put_line.Goals as goal
 
-pub loop-k-init : goal.loop-k-init
+pub loop-byte-init : goal.loop-byte-init
 unfolding signs
-loop-k-init c = (omega arith, wrote_none, omega arith)
+loop-byte-init c = writes_none
 
-pub loop-k-preserved : goal.loop-k-preserved
-unfolding eight_signs
-loop-k-preserved c =
-    let text = signs_byte c.args.pic.now c.args.i c.loop-k.k in
-    (omega arith, rw text (wrote_more c.loop-k.invariant.1 c.put_eight-r.ensures), omega arith)
+pub put_eight-requires : goal.put_eight-requires
+put_eight-requires c =
+    let w = c.loop-byte.invariant.wrote in
+    omega (arith, w.end, w.size, signs_length c.args.eight.now 0 (8 * c.loop-byte.byte-index))
 
-pub returns : goal.returns
-returns c =
-    let all : c.loop-k.k ≡ 8 = omega arith in
-    wrote_more (rw all at c.loop-k.invariant.1) c.put.ensures
+pub loop-byte-preserved : goal.loop-byte-preserved
+loop-byte-preserved c =
+    rw (signs_byte c.args.eight.now c.loop-byte.byte-index) (writes_more c.loop-byte.invariant c.put_eight.ensures)
+
+pub put-requires : goal.put-requires
+put-requires c =
+    let w = c.loop-byte.invariant.wrote in
+    omega (arith, w.end, w.size, signs_length c.args.eight.now 0 (8 * c.loop-byte.byte-index))

@@ -1,13 +1,8 @@
--- `pbm::write::put_lines`: the loop's invariant: the first k lines are written. The measure is the lines left.
+-- `pbm::write::put_lines`: the loop's invariant: the lines of the bytes before those that are left are written.
 -- Assumes nothing.
-use mathlib.Core.Path.{◌≡◌}
-use Prim.Native.Nat.{◌+◌, ◌*◌, ◌-◌, ◌≤◌}
-use Rattle.text.specs.Wrote.{Wrote}
-use Rattle.pbm.specs.File.{file_lines}
+use Rattle.std.proofs.Common.{◌≡◌}
+use Rattle.pbm.proofs.Parts.{Lines}
 use Rattle.pbm.proofs.write.put_lines.Given as goal
 
-abbrev pub invariant-loop-k : goal.invariant-loop-k
-invariant-loop-k l = (l.k ≤ l.n) × Wrote l.initial.out l.at (file_lines l.pic (8 * l.i) l.k) l.out l.r × (l.r ≡ l.at + 65 * l.k)
-
-abbrev pub decreases-loop-k : goal.decreases-loop-k
-decreases-loop-k l = l.n - l.k
+abbrev pub invariant-loop-eight : goal.invariant-loop-eight
+invariant-loop-eight l = (l.eight-iterator.size ≡ 8) × Lines l.line l.initial.w l.eight-iterator.rest.now l.w

@@ -2,13 +2,15 @@
 -- Assumes nothing.
 use mathlib.Core.Path.{◌≡◌}
 use Prim.Native.Nat.{◌-◌, ◌≤◌}
-use lib.ListN.{length}
 use Rattle.picture.specs.Dot.{paint}
 use Rattle.picture.specs.Working.Runs.{up_from}
 use Rattle.picture.proofs.run.paint_run.Given as goal
 
 abbrev pub invariant-loop-done : goal.invariant-loop-done
-invariant-loop-done l = (l.done ≤ l.n) × (length l.pic ≡ length l.initial.pic) × (l.pic ≡ paint l.lit (up_from l.d l.done) l.initial.pic)
+invariant-loop-done l = record {
+  within : l.done ≤ l.n;
+  painted : l.pic ≡ paint l.lit (up_from l.d l.done) l.initial.pic;
+}
 
 abbrev pub decreases-loop-done : goal.decreases-loop-done
 decreases-loop-done l = l.n - l.done

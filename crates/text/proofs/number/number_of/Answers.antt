@@ -1,32 +1,37 @@
 -- `text::number::number_of` meets its contract.
 -- Assumes nothing.
+use mathlib.Core.Path.{refl}
 use native.Mathlib.Omega.{arith}
-use Rattle.text.proofs.Numbers.{too_short, too_long, fits, passed_more, passed_bad, taken_all, taken_none}
+use borrow.Author.Rules.{rules}
+use Rattle.text.proofs.Numbers.{digit_some, digit_none, too_short, too_long, fits, passed_more, passed_bad, taken_all, taken_none}
 use Rattle.text.proofs.number.number_of.Goals as goal
+use Rattle.text.proofs.number.number_of.Goals.{then-is_empty-via-then-is_empty, then-is_empty-via-else-is_empty+then-most-f}
 
-pub returns-then-f-eq0 : goal.returns-then-f-eq0
-returns-then-f-eq0 c = taken_none c.requires.0 (too_short _ _ _ c.if-f-eq0.true)
-
-pub returns-then-most-f : goal.returns-then-most-f
-returns-then-most-f c = taken_none c.requires.0 (too_long _ _ _ c.if-most-f.true)
-
-pub returns-then-base-d : goal.returns-then-base-d
-returns-then-base-d c =
-    taken_none c.requires.0
-    (passed_bad c.loop-i.invariant _ c.loop-i-test.true c.digit_value-d.ensures c.if-base-d.true)
+pub returns-then-is_empty : goal.returns-then-is_empty
+returns-then-is_empty c =
+    elim c.then-is_empty.branch [
+      | then-is_empty-via-then-is_empty w ↦ taken_none c.requires.0 (too_short _ _ _ (search rules))
+      | then-is_empty-via-else-is_empty+then-most-f w ↦ taken_none c.requires.0 (too_long _ _ _ w.if-most-f.true)
+    ]
 
 pub overflow_mul-n : goal.overflow_mul-n
 overflow_mul-n c =
-    omega (arith, fits c.loop-i.invariant c.requires.1 (omega arith))
+    omega (arith, fits c.loop-b.invariant c.requires.1 (omega arith))
+
+pub returns-in_err-n : goal.returns-in_err-n
+returns-in_err-n c =
+    rw c.from_residual.ensures (taken_none c.requires.0 (passed_bad c.loop-b.invariant _ c.loop-b-test.true refl (digit_none _ _ c.in_err-n.ensures)))
 
 pub overflow_add-n : goal.overflow_add-n
 overflow_add-n c =
-    omega (arith, fits c.loop-i.invariant c.requires.1 (omega arith))
+    let d = digit_some _ _ _ c.in_ok-n.ensures in
+    omega (arith, fits c.loop-b.invariant c.requires.1 (omega arith))
 
-pub loop-i-preserved : goal.loop-i-preserved
-loop-i-preserved c =
-    passed_more c.loop-i.invariant c.loop-i-test.true c.digit_value-d.ensures c.if-base-d.false
+pub loop-b-preserved : goal.loop-b-preserved
+loop-b-preserved c =
+    let d = digit_some _ _ _ c.in_ok-n.ensures in
+    passed_more c.loop-b.invariant c.loop-b-test.true d.0 d.1
 
 pub returns : goal.returns
 returns c =
-    taken_all c.loop-i.invariant c.requires.0 c.loop-i-test.false (omega arith) (omega arith)
+    taken_all c.loop-b.invariant c.requires.0 c.loop-b-test.false (search rules) (omega arith)

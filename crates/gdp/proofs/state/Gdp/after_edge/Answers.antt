@@ -10,7 +10,7 @@ pub returns-then-is_light_pen_open : goal.returns-then-is_light_pen_open
 unfolding after_edge flat
 returns-then-is_light_pen_open c s e =
     rw (light_pen_seen s e ∙ sym c.is_light_pen_open.ensures ∙ c.if-is_light_pen_open.true)
-    (c.light_pen_raised.ensures (with_light_pen Off (with_regs (with_lpck _ _ s.regs) s)) (c.light_pen_ends.ensures (with_regs (with_lpck _ _ s.regs) s) (simp e)))
+    (c.raised.ensures (with_light_pen Off (with_regs (with_lpck _ _ s.regs) s)) (c.light_pen_ends.ensures (with_regs (with_lpck _ _ s.regs) s) (simp e)))
 
 pub returns : goal.returns
 unfolding after_edge

@@ -10,21 +10,21 @@ use Rattle.gdp.proofs.Bytes.{named_signals_lem}
 use Rattle.gdp.proofs.ClearBytes.{clear_runs, clear_kept}
 use Rattle.gdp.proofs.state.Gdp.tidy.Goals as goal
 
-pub returns-then-work-eq-IDLE : goal.returns-then-work-eq-IDLE
-returns-then-work-eq-IDLE c n =
+pub returns-then-work : goal.returns-then-work
+returns-then-work c n =
     let b = c.args.self in
-    c.idle.ensures n ∙ ap flat (rests (state_of b) (idle_rests b (sym c.work_number-work.ensures ∙ c.if-work-eq-IDLE.true)))
+    c.idle.ensures n ∙ ap flat (rests (state_of b) (idle_rests b (sym c.work_number-work.ensures ∙ c.if-work.true)))
 
-pub returns-then-work-eq-STEPS : goal.returns-then-work-eq-STEPS
-returns-then-work-eq-STEPS c n =
+pub returns-then-work-2 : goal.returns-then-work-2
+returns-then-work-2 c n =
     let b = c.args.self in
     c.stepping.ensures n
-    ∙ ap (λ (w : Work). flat (with_work w (state_of b))) (sym (steps_run b (sym c.work_number-work.ensures ∙ c.if-work-eq-STEPS.true)))
+    ∙ ap (λ (w : Work). flat (with_work w (state_of b))) (sym (steps_run b (sym c.work_number-work.ensures ∙ c.if-work-2.true)))
 
 pub returns : goal.returns
 unfolding flat state_of work_at
 returns c n =
     let b = c.args.self in
     let h = and_parts (named_modes b.modes) (named_signals b.signals) n in
-    let two = clear_runs b.modes h.0 (λ e. c.if-work-eq-IDLE.false (c.work_number-work.ensures ∙ e)) (λ e. c.if-work-eq-STEPS.false (c.work_number-work.ensures ∙ e)) in
+    let two = clear_runs b.modes h.0 (λ e. c.if-work.false (c.work_number-work.ensures ∙ e)) (λ e. c.if-work-2.false (c.work_number-work.ensures ∙ e)) in
     simp (c.clear_modes.ensures, c.in_use.ensures, named_signals_lem b.signals h.1, clear_kept b.modes h.0 two, two)

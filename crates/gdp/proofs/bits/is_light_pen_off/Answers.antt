@@ -1,5 +1,0 @@
-use Rattle.gdp.proofs.Bytes.{light_pen_off_at}
-use Rattle.gdp.proofs.bits.is_light_pen_off.Goals as goal
-
-pub returns : goal.returns
-returns c = light_pen_off_at _
