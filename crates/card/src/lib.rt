@@ -72,7 +72,6 @@ pub extern "C" fn gdp_address(state: Gdp) -> Outputs
 
 // The picture of a format as a plain PBM file. A number of no format is refused with 2: no picture is of its length.
 #[unsafe(no_mangle)]
-#[tactic(auto, unfolding(crate::specs::Numbered::numbered, parts::specs::Format::format_named, parts::specs::Refusal::refusal_number, pbm::specs::Calls::told))]
 pub extern "C" fn gdp_write_pbm(format: u8, pic: &[u8], out: &mut [u8]) -> PbmAnswer
     ensures { Leaves (numbered written_out format pic.now out.old) result out.new }
 {
@@ -84,7 +83,6 @@ pub extern "C" fn gdp_write_pbm(format: u8, pic: &[u8], out: &mut [u8]) -> PbmAn
 
 // A plain PBM file read into a picture of a format.
 #[unsafe(no_mangle)]
-#[tactic(auto, unfolding(crate::specs::Numbered::numbered, parts::specs::Format::format_named, parts::specs::Refusal::refusal_number, pbm::specs::Calls::told))]
 pub extern "C" fn gdp_read_pbm(format: u8, file: &[u8], pic: &mut [u8]) -> PbmAnswer
     ensures { Leaves (numbered read_in format file.now pic.old) result pic.new }
 {

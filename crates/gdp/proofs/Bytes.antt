@@ -2,11 +2,11 @@
 -- Assumes nothing.
 use mathlib.Core.Path.{◌≡◌, refl, sym, ap, ◌∙◌}
 use Prim.Native.Nat.{ℕ, zero, suc, ◌+◌, ◌*◌, ◌/◌, ◌%◌, ◌^◌, ◌<◌}
-use mathlib.Core.Bool.{Bool, true, false, cond, not, ◌||◌, or-true, or-false, beq}
+use mathlib.Core.Bool.{Bool, true, false, cond, not, ◌&&◌, ◌||◌, or-true, or-false, beq}
 use native.Mathlib.Nat.{pow-suc, mul_assoc, mul_comm}
 use native.Mathlib.Omega.{arith}
 use lib.Pow.{mod-pow-add}
-use lib.Dec.{T, eqb, ltb, leb}
+use lib.Dec.{T, eqb, ltb, leb, eqb→eq}
 use borrow.Author.Tests.{ltb-true, ne_eqb, le-leb}
 use Rattle.basis.proofs.Cases.{and_parts}
 use Rattle.basis.proofs.Table.{beq_eq, below, passes}
@@ -17,7 +17,7 @@ use Rattle.rules.specs.Sequence.{Frames, Work, Idle, Steps, Clear, LightPen, Off
 use Rattle.rules.specs.State.{Flags, flags}
 use Rattle.parts.specs.Format.{format_number, format_at}
 use Rattle.gdp.specs.Flat.{light_pen_number, light_pen_at, work_number, code_of, done_of, fills, work_at, modes_of, signals_of, format_in, work_in, light_pen_in, named_modes, named_signals}
-use Rattle.gdp.specs.Working.Bits.{stray_light_pen, put_work, put_light_pen, raise_flag, in_use, signals_fall}
+use Rattle.gdp.specs.Working.Bits.{stray_light_pen, stray_work, put_work, put_light_pen, raise_flag, in_use, signals_fall, signal_bits, signal_sum}
 use Rattle.gdp.proofs.Packing.{light_pen_below, format_part, vb_part, light_pen_part, light_pen_flag_part, vb_flag_part, ready_flag_part}
 
 -- a bit made b: the number less the bit's weight where it was high, and with it where b is
@@ -175,11 +175,22 @@ light_pen_open_at (suc zero) = refl
 light_pen_open_at (suc (suc n)) =
     rw (ne_eqb (suc (suc n)) 0 (λ e. omega arith), ne_eqb (suc (suc n)) 1 (λ e. omega arith), le-leb 2 (suc (suc n)) (omega arith)) refl
 
+-- the bits of STATUS that `signals` gives, computed over the 256 bytes
+pub signal_bits_lem : (g : ℕ) → g < 256 → signal_sum g ≡ signal_bits g
+signal_bits_lem g h = eqb→eq _ _ (passes (λ g. eqb (signal_sum g) (signal_bits g)) 256 tt g h)
+
 -- two tests that agree at the 256 bytes
 pub agree : (f g : ℕ → Bool) → T (below (λ n. beq (f n) (g n)) 256) → (n : ℕ) → n < 256 → f n ≡ g n
 agree f g t n h = beq_eq _ _ (passes (λ n. beq (f n) (g n)) 256 t n h)
 
--- the test of a stray pen sequence
+-- the tests of stray bytes
 pub stray_light_pen_lem : (g : ℕ) → g < 256 → ltb 4 (g / 2 % 8) ≡ stray_light_pen g
 unfolding named_signals light_pen_at
 stray_light_pen_lem = agree (λ g. ltb 4 (g / 2 % 8)) stray_light_pen tt
+
+abbrev work_test : Bool → ℕ → Bool
+work_test vb m = cond (bit_at 4 m) (bit_at 3 m || (vb && bit_at 6 m)) false
+
+pub stray_work_lem : (vb : Bool) (m : ℕ) → m < 256 → work_test vb m ≡ stray_work vb m
+stray_work_lem true = agree (work_test true) (stray_work true) tt
+stray_work_lem false = agree (work_test false) (stray_work false) tt

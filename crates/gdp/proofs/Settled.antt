@@ -5,12 +5,17 @@ use mathlib.Core.Path.{◌≡◌, refl, sym, ap, ◌∙◌}
 use mathlib.Core.Bool.{Bool, cond}
 use mathlib.Core.List.{List}
 use Prim.Native.Nat.{ℕ}
+use Rattle.std.proofs.Common.{Result, Ok, Err}
+use Rattle.parts.specs.declared.refusal.Refusal.{Refusal}
+use Rattle.parts.specs.declared.address.Address.{Address}
+use Rattle.parts.proofs.Laws.{number_some, number_apart}
 use Rattle.rules.specs.Calls.{Memory, Outcome, written, read_out, struck, located}
 use Rattle.gdp.specs.declared.state.Gdp.{Gdp}
+use Rattle.gdp.specs.declared.state.Reply.{Reply}
 use Rattle.gdp.specs.declared.state.Answer.{Answer}
 use Rattle.gdp.specs.declared.address.Outputs.{Outputs}
 use Rattle.gdp.specs.Flat.{named, state_of}
-use Rattle.gdp.specs.Calls.{answer_of, Leaves, Grants, Blanks, outputs_of, fresh_answer}
+use Rattle.gdp.specs.Calls.{as_answer, answer_of, Leaves, Grants, Blanks, as_outputs, outputs_of, fresh_answer}
 
 -- a call that is lent nothing: `r ≡ ..`
 pub settles {ℓ} : {A : Type ℓ} {x r q : A} → r ≡ x → q ≡ x → r ≡ q
@@ -60,3 +65,20 @@ edge_settled b h v = settles
 pub address_settled : (b : Gdp) {r q : Outputs}
     → r ≡ outputs_of b (located (state_of b)) → q ≡ outputs_of b (located (state_of b)) → r ≡ q
 address_settled b = settles
+
+-- the processor's own calls give a value and a state or a refusal, and of that what C has settles it too
+pub answers_apart : (b : Gdp) (r q : Result Reply Refusal) → as_answer b r ≡ as_answer b q → r ≡ q
+answers_apart b (Ok r) (Ok q) e =
+    let same : ◌≡◌ {A = Reply} r q = ap (λ (a : Answer). record { value = a.value; state = a.state }) e in
+    ap Ok same
+answers_apart b (Ok r) (Err why) e = absurd (number_some why (sym (ap (λ (a : Answer). a.number) e)))
+answers_apart b (Err why) (Ok q) e = absurd (number_some why (ap (λ (a : Answer). a.number) e))
+answers_apart b (Err why) (Err other) e = ap Err (number_apart (ap (λ (a : Answer). a.number) e))
+
+pub outputs_apart : (r q : Result Address Refusal) → as_outputs r ≡ as_outputs q → r ≡ q
+outputs_apart (Ok r) (Ok q) e =
+    let same : ◌≡◌ {A = Address} r q = ap (λ (o : Outputs). record { low = o.low; high = o.high; msl = o.msl }) e in
+    ap Ok same
+outputs_apart (Ok r) (Err why) e = absurd (number_some why (sym (ap (λ (o : Outputs). o.number) e)))
+outputs_apart (Err why) (Ok q) e = absurd (number_some why (ap (λ (o : Outputs). o.number) e))
+outputs_apart (Err why) (Err other) e = ap Err (number_apart (ap (λ (o : Outputs). o.number) e))

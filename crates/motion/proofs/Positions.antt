@@ -56,6 +56,10 @@ behind_behind p m n =
     sym (behind_ahead q (n + m) (behind_range (behind p m) n)) ∙ ap (λ (r : ℕ). behind r (n + m)) there ∙ whole
     ∙ ap (behind p) (add_comm n m)
 
+-- what `signed` adds for a move back goes back
+pub signed_back : (p n : ℕ) → n ≤ 4096 → ahead p (signed true n) ≡ behind p n
+signed_back p n h = omega arith
+
 -- a signed distance is at most 4,096
 pub signed_range : (back : Bool) (n : ℕ) → n ≤ 4096 → signed back n ≤ 4096
 signed_range true n h = omega arith

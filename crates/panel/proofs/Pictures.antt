@@ -5,11 +5,13 @@ use mathlib.Core.List.{List}
 use Prim.Native.Nat.{ℕ, ◌≤◌, ◌<◌}
 use lib.ListN.{length}
 use borrow.Author.Tests.{lt-ltb, le-ltb}
+use Rattle.std.proofs.Common.{Result}
 use Rattle.text.specs.Pieces.{lines_of}
+use Rattle.parts.specs.declared.refusal.Refusal.{Refusal}
 use Rattle.parts.specs.declared.format.Format.TheVariants.{Ef9366}
 use Rattle.pbm.specs.declared.answer.Answer.{Answer}
-use Rattle.pbm.specs.Calls.{file_of, written_out, Leaves}
-use Rattle.pbm.proofs.Settled.{leaves_settles}
+use Rattle.pbm.specs.Calls.{file_of, written_out, told, Leaves}
+use Rattle.pbm.proofs.Settled.{leaves_settles, told_apart}
 use Rattle.panel.specs.Panel.{dark, card, shown}
 use Rattle.panel.specs.Screen.{screen}
 
@@ -34,3 +36,10 @@ module _ (input buffer : List ℕ) {r : Answer} {n : ℕ} (size : (pic : List �
 pub screen_settled : (input buffer : List ℕ) {r q : Answer} {m n : List ℕ}
     → Leaves (screen input buffer) r m → Leaves (screen input buffer) q n → (r ≡ q) × (m ≡ n)
 screen_settled input buffer = leaves_settles
+
+-- and so the call's own, a length or a refusal
+pub result_settled : (input buffer : List ℕ) {r q : Result ℕ Refusal} {m n : List ℕ}
+    → Leaves (screen input buffer) (told r) m → Leaves (screen input buffer) (told q) n → (r ≡ q) × (m ≡ n)
+result_settled input buffer {r} {q} l k =
+    let (answers, memories) = leaves_settles l k in
+    (told_apart r q answers, memories)

@@ -1,11 +1,11 @@
--- The laws of the numbers: no refusal has 0; where the lowest is 0 no case applies, and it is never above the highest of its cases.
+-- The laws of the numbers: no refusal has 0 and no two have one; where the lowest is 0 no case applies, and it is never above the highest of its cases.
 -- Assumes nothing.
-use mathlib.Core.Path.{◌≡◌, refl}
+use mathlib.Core.Path.{◌≡◌, refl, sym, ap, ◌∙◌}
 use mathlib.Core.Bool.{Bool, true, false, cond, ◌&&◌}
 use mathlib.Core.List.{[], ◌∷◌, ◌++◌}
 use Prim.Native.Nat.{ℕ, ◌≤◌, ◌<◌}
 use native.Mathlib.Omega.{arith}
-use lib.Dec.{T, ltb, leb}
+use lib.Dec.{T, eqb, ltb, leb}
 use borrow.Author.Tests.{ltb-true, leb-true}
 use Rattle.basis.proofs.Cases.{passed, and_left, and_right}
 use Rattle.parts.specs.declared.refusal.Refusal.{Refusal}
@@ -28,6 +28,42 @@ number_some OtherSize e = absurd (omega arith)
 number_some BadDots e = absurd (omega arith)
 number_some NoRecord e = absurd (omega arith)
 number_some LongLog e = absurd (omega arith)
+
+-- the refusal of a number
+named : ℕ → Refusal
+named n =
+    cond (eqb n 1) BadState
+    (cond (eqb n 2) BadPicture
+    (cond (eqb n 3) BadTable
+    (cond (eqb n 4) BadAddress
+    (cond (eqb n 5) ReadOnly
+    (cond (eqb n 6) Busy
+    (cond (eqb n 8) OffScreen
+    (cond (eqb n 9) ShortBuffer
+    (cond (eqb n 10) NoPbm
+    (cond (eqb n 11) OtherSize
+    (cond (eqb n 12) BadDots
+    (cond (eqb n 20) NoRecord LongLog)))))))))))
+
+named_back : (why : Refusal) → named (refusal_number why) ≡ why
+unfolding refusal_number named
+named_back BadState = refl
+named_back BadPicture = refl
+named_back BadTable = refl
+named_back BadAddress = refl
+named_back ReadOnly = refl
+named_back Busy = refl
+named_back OffScreen = refl
+named_back ShortBuffer = refl
+named_back NoPbm = refl
+named_back OtherSize = refl
+named_back BadDots = refl
+named_back NoRecord = refl
+named_back LongLog = refl
+
+-- two refusals of one number are one
+pub number_apart : {r q : Refusal} → refusal_number r ≡ refusal_number q → r ≡ q
+number_apart {r} {q} e = sym (named_back r) ∙ ap named e ∙ named_back q
 
 -- every number has one or two digits
 pub number_small : (why : Refusal) → refusal_number why < 100

@@ -32,6 +32,12 @@ impl From<Refusal> for u8 {
 }
 
 impl fmt::Display for Refusal {
+    ghost use Rattle.std.specs.Prelude.{Some};
+    ghost use Rattle.parts.specs.Working.Sentences.{refusal_sentence};
+
+    ghost output = { λ why. Some (refusal_sentence why) };
+
+    #[tactic(auto, unfolding(crate::specs::Working::Sentences::refusal_sentence))]
     fn fmt<W: fmt::Write>(&self, f: &mut fmt::Formatter<W>) -> fmt::Result {
         f.write_str(match self {
             Refusal::BadState => "there is no such format or state",

@@ -74,6 +74,10 @@ weighed_small zero s = omega arith
 weighed_small (suc k) s =
     omega (arith, pow-suc 2 k, weighed_small k (drop 1 s), digit_lt (eqb (get_or s 0 0) 49))
 
+-- so eight signs make a byte
+pub eight_small : {s rest : List ℕ} {byte : ℕ} → Eight s byte rest → byte < 256
+eight_small {s} e = omega (arith, e.shows, weighed_small 8 (taken 8 s))
+
 -- of eight signs some are left, and those behind them are weighed
 pub record Weighed (signs left : List ℕ) (byte : ℕ) : Type 0 where
   pub seen : List ℕ
@@ -126,6 +130,15 @@ module _ {s signs rest : List ℕ} {k : ℕ} (t : Sought s signs rest k) where
     sought_end z =
         let none : passed false rest ≡ [] = sym n ∙ nil_from_length next z in
         sym (ap are_dots t.found) ∙ dots_append (take k signs) (taken (8 - k) rest) ∙ rw (later, none, and-false)
+
+    -- the next is no dot
+    pub sought_bad : (b : ℕ) (more : List ℕ) → next ≡ b ∷ more → is_dot b ≡ false → are_dots (taken 8 s) ≡ false
+    unfolding are_dots
+    sought_bad b more e bad =
+        let others : taken (8 - k) rest ≡ b ∷ taken (8 - (k + 1)) more =
+        ap (λ i. taken i rest) later ∙ taken_next (8 - (k + 1)) rest (sym n ∙ e)
+        in
+        sym (ap are_dots t.found) ∙ dots_append (take k signs) (taken (8 - k) rest) ∙ rw (others, bad, and-false)
 
     -- the next
     pub sought_more : (b : ℕ) (more : List ℕ) → next ≡ b ∷ more → Sought s (set signs k b) more (k + 1)

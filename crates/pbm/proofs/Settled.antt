@@ -1,16 +1,19 @@
 -- The statements settle their results: any two results that one allows are equal, and the definition's own result is allowed. What a
 -- refusal and what an accepted call leaves follows.
 -- Assumes nothing.
-use mathlib.Core.Path.{◌≡◌, refl, sym, ◌∙◌}
+use mathlib.Core.Path.{◌≡◌, refl, sym, ap, ◌∙◌}
 use mathlib.Core.List.{List, ◌++◌}
 use Prim.Native.Nat.{ℕ}
 use lib.ListN.{length, drop}
 use borrow.Author.Tests.{eq-eqb, ne_eqb}
+use Rattle.std.proofs.Common.{Result, Ok, Err}
 use Rattle.parts.specs.declared.format.Format.{Format}
+use Rattle.parts.specs.declared.refusal.Refusal.{Refusal}
+use Rattle.parts.proofs.Laws.{number_some, number_apart}
 use Rattle.parts.specs.Format.{width, height}
 use Rattle.pbm.specs.declared.answer.Answer.{Answer}
 use Rattle.pbm.specs.Contents.{shown}
-use Rattle.pbm.specs.Calls.{Outcome, settled, file_of, out_number, written_out, signs_for, in_number, read_in, Leaves}
+use Rattle.pbm.specs.Calls.{Outcome, settled, file_of, out_number, written_out, signs_for, in_number, read_in, told, told_read, Leaves}
 
 -- the answer and what is left of the lent memory
 pub leaves_settles : {o : Outcome} {r q : Answer} {m n : List ℕ} → Leaves o r m → Leaves o q n → (r ≡ q) × (m ≡ n)
@@ -27,6 +30,21 @@ write_pbm_settled f picture buffer = leaves_settles
 pub read_pbm_settled : (f : Format) (text picture : List ℕ) {r q : Answer} {m n : List ℕ}
     → Leaves (read_in f text picture) r m → Leaves (read_in f text picture) q n → (r ≡ q) × (m ≡ n)
 read_pbm_settled f text picture = leaves_settles
+
+-- the calls themselves give a value or a refusal, and of that what C is told settles it too
+pub told_apart : (r q : Result ℕ Refusal) → told r ≡ told q → r ≡ q
+unfolding told
+told_apart (Ok v) (Ok w) e = ap Ok (ap (λ (a : Answer). a.value) e)
+told_apart (Ok v) (Err why) e = absurd (number_some why (sym (ap (λ (a : Answer). a.number) e)))
+told_apart (Err why) (Ok w) e = absurd (number_some why (ap (λ (a : Answer). a.number) e))
+told_apart (Err why) (Err other) e = ap Err (number_apart (ap (λ (a : Answer). a.number) e))
+
+pub told_read_apart : (r q : Result (Unit {0}) Refusal) → told_read r ≡ told_read q → r ≡ q
+unfolding told told_read
+told_read_apart (Ok v) (Ok w) e = refl
+told_read_apart (Ok v) (Err why) e = absurd (number_some why (sym (ap (λ (a : Answer). a.number) e)))
+told_read_apart (Err why) (Ok w) e = absurd (number_some why (ap (λ (a : Answer). a.number) e))
+told_read_apart (Err why) (Err other) e = ap Err (number_apart (ap (λ (a : Answer). a.number) e))
 
 -- a refusal has its number and value 0 and writes nothing
 module _ (number value : ℕ) (after before : List ℕ) (bad : number ≡ 0 → ⊥) where

@@ -35,6 +35,11 @@ module _ (b d : ℕ) (bs : List ℕ) (v : (d ≡ digit_value b) × (d < 10)) whe
   unfolding is_digit
   digit = rw v.0 at (lt-ltb d 10 v.1)
 
+  -- behind it the same is left
+  pub behind_one : {s : List ℕ} → s ≡ b ∷ bs → behind_digits s ≡ behind_digits bs
+  unfolding behind_digits
+  behind_one e = rw (e, digit)
+
   -- the first
   pub reading_one : {s : List ℕ} → s ≡ b ∷ bs → Reading s d bs
   unfolding digits behind_digits number_from
@@ -51,6 +56,18 @@ module _ (b d : ℕ) (bs : List ℕ) (v : (d ≡ digit_value b) × (d < 10)) whe
         same = p.same ∙ rw (e, digit) (not_apart (n * 10 + digit_value b) m (digits bs) (omega arith));
         behind = p.behind ∙ rw (e, digit);
       }
+
+-- a number of 65536 or more stays so, whatever digits follow
+stays : (n : ℕ) (ds : List ℕ) → 65536 ≤ n → 65536 ≤ number_from 10 n ds
+unfolding number_from
+stays n [] h = h
+stays n (d ∷ ds) h = stays (n * 10 + digit_value d) ds (omega arith)
+
+-- so it is read, its digits only passed over
+pub reading_large : {s rest left : List ℕ} {n : ℕ} → Reading s n rest → n ≡ 65536 → left ≡ behind_digits rest → Read s 65536 left
+reading_large {rest = rest} {n = n} p e k =
+    let large : 65536 ≤ number_from 10 n (digits rest) = stays n (digits rest) (omega arith) in
+    record { some = p.some; number = omega (arith, p.same, large); left = k ∙ sym p.behind }
 
 -- none is next: the number is read
 pub reading_stop : {s rest : List ℕ} {n : ℕ} → Reading s n rest → is_digit (get_or rest 0 0) ≡ false → Read s n rest

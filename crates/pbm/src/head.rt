@@ -1,7 +1,7 @@
 // The head of a file: P1 and the two numbers.
 ghost use Rattle.std.specs.Prelude.{◌≡◌, true, false, ◌+◌, ◌*◌, ◌≤◌, ◌<◌, min, MatchOption, MatchResult, slice_index, drop};
 ghost use Rattle.parts.specs.Refusal.{refusal_number};
-ghost use Rattle.pbm.specs.Contents.{is_digit, marked, opens, from_dots};
+ghost use Rattle.pbm.specs.Contents.{is_digit, behind_digits, marked, opens, from_dots};
 ghost use Rattle.pbm.specs.Working.Heads.{Read, Opened, head_number};
 
 use crate::white::{is_white, pass};
@@ -19,7 +19,20 @@ fn grown(n: u32, d: u32) -> u32
     (n * 10 + d).min(LARGE)
 }
 
-// A whole number, its digits as far as they go, and what is left of the file behind them.
+// What is left of a file behind digits.
+fn past_digits(left: &[u8]) -> &[u8]
+    ensures { result.now ≡ behind_digits left.now }
+{
+    for (i, &b) in left.iter().enumerate() {
+        let Some(_) = digit(b, 10) else {
+            return &left[i..];
+        };
+    }
+    &[]
+}
+
+// A whole number, its digits as far as they go, and what is left of the file behind them. Once it is LARGE no digit changes it: told
+// so, the loop waits for no compare from digit to digit.
 fn read_whole(left: &[u8]) -> Option<(u32, &[u8])>
     ensures { MatchOption result (is_digit (slice_index left.now 0) ≡ false) (λ whole. Read left.now whole.0 whole.1.now) }
 {
@@ -30,6 +43,9 @@ fn read_whole(left: &[u8]) -> Option<(u32, &[u8])>
             return Some((n, &rest[i..]));
         };
         n = grown(n, d);
+        if n == LARGE {
+            return Some((LARGE, past_digits(&rest[i + 1..])));
+        }
     }
     Some((n, &[]))
 }

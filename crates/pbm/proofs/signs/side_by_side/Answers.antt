@@ -7,4 +7,4 @@ use Rattle.pbm.proofs.signs.side_by_side.Goals as goal
 pub returns : goal.returns
 returns c =
     let cut = c.in_ok-signs.ensures.cases in
-    beside (omega (arith, cut.2)) cut.0 cut.1 c.in_ok-byte_of.ensures
+    beside (omega (arith, cut.2)) cut.0 cut.1 (rw c.from.ensures c.in_ok-byte_of.ensures)
