@@ -18,8 +18,7 @@ pub(crate) fn play_lines(input: &[u8], pic: &mut [u8], table: &[u8], w: &mut Wri
     ensures pic_after { (pic.new ≡ (shown card (lines_of input.now)).memory.picture) × (w.new.at ≤ w.old.at + 720907) }
 {
     let mut s = Gdp::fresh(Format::Ef9366);
-    // The state stays where it is, and only an accepted call changes it: handed on and back by each line it was copied in pieces, and a
-    // line took up to twice the time.
+    // The state stays where it is, and only an accepted call changes it: handed on and back it would be copied at each line.
     for (k, text) in Lines(input).enumerate() {
         let line = k as u32 + 1;
         play_record(&mut s, line, parse(text), pic, table, w);

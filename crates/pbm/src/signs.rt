@@ -72,7 +72,7 @@ fn search(left: &[u8]) -> Option<(usize, &[u8])>
 }
 
 // The same behind white space: only white space among them asks for a search. Called, and not compiled into the loops that take
-// eight by eight: these take twice the instructions then.
+// eight by eight: these take half as long again or twice as long then.
 #[inline(never)]
 fn find_eight(left: &[u8]) -> Option<(usize, &[u8])>
     ensures { Eights left.now result }

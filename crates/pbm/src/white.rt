@@ -4,7 +4,7 @@ ghost use Rattle.pbm.specs.Contents.{is_white, passed};
 
 use text::{LINE_FEED, TAB};
 
-// Two patterns: of one the compiler makes a branch for each byte, and white space took half as long again.
+// Two patterns: of one the compiler makes a branch for each byte, and white space takes half as long again.
 #[tactic(auto, unfolding(crate::specs::Contents::is_white))]
 pub(crate) fn is_white(b: u8) -> bool
     ensures { result ≡ is_white b }
